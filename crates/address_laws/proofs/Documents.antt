@@ -13,7 +13,7 @@ use Rattle.bind_rows.specs.declared.rows.Row.{Row}
 use Rattle.bind_rows.specs.declared.rows.Content.{Content}
 use Rattle.bind_rows.specs.declared.rows.Content.TheVariants as contents
 use Rattle.bind_table.specs.Lines.{Plan, nothing, a_line, plan_of}
-use Rattle.bind_table.specs.Laid.{is_laid, is_laid_plan, are_distinct, element_numbers}
+use Rattle.bind_table.specs.Laid.{is_writable, is_writable_plan, are_distinct, element_numbers}
 use Rattle.bind_meaning.specs.Picks.{has_any_term, term_in}
 use Rattle.bind_meaning.specs.Trees.{document_of, written_lines}
 use Rattle.binding_laws.proofs.TreeLemmas.{Each}
@@ -157,7 +157,7 @@ at-most-itself n = omega arith
 
 -- ---- documents
 
-laid-distinct : (plan : Plan) → is_laid_plan plan ≡ true → are_distinct (element_numbers plan) ≡ true
+laid-distinct : (plan : Plan) → is_writable_plan plan ≡ true → are_distinct (element_numbers plan) ≡ true
 laid-distinct nothing h = absurd (false≢true h)
 laid-distinct (a_line s cells inside (a_line t others within rest)) h = absurd (false≢true h)
 laid-distinct (a_line s cells inside nothing) h =
@@ -171,7 +171,7 @@ top-level es plan h = record {
   alone = λ e k q. absurd (false≢true q);
 }
 
-pub document-tree : (rows : List Row) (es : List Entry) → list_all is_placed es ≡ true → is_laid rows ≡ true → is_addressed rows ≡ true →
+pub document-tree : (rows : List Row) (es : List Entry) → list_all is_placed es ≡ true → is_writable rows ≡ true → is_addressed rows ≡ true →
     document_of rows es ≡ tree_of (leaves_of rows es)
 unfolding document_of
 document-tree rows es placed laid addressed =

@@ -39,7 +39,7 @@ use Rattle.binding_laws.proofs.ListLemmas.{append-nil, both-true, or-either, fla
 use Rattle.address_laws.specs.AddressTrees.{Leaf}
 use Rattle.address_laws.specs.Addresses.{Turn, turns, or_once, group_turns, turn_of, how_often, is_own, foreign_turns, row_turns, Way, through, ways, leaf_at}
 use Rattle.address_laws.specs.Addresses.{under, leaves_at, entry_leaves, said_of_row}
-use Rattle.address_laws.specs.Addressed.{is_spread_over, is_own_way, is_filler_kept, is_spread, row_fits}
+use Rattle.address_laws.specs.Addressed.{is_spread_over, is_own_way, is_placeholder_kept, is_spread, row_fits}
 use Rattle.address_laws.proofs.Orders.{In}
 use Rattle.address_laws.proofs.Ways.{ways-step}
 use Rattle.address_laws.proofs.Holding.{writes_below, or-false, or-true}
@@ -74,7 +74,7 @@ module _ (es : List Entry) (placed : list_all is_placed es ≡ true) where
           absurd (never (subst (IsAtGroups o i) at (context-there w.entry term o i (same_term_is w.entry.term term k.0)
           (all-among is_placed w.entry es placed w.among) there (subst (IsReachable o i) (sym at) reach))))
 
-  filled-none : (row : Row) (w : Written) (c : Context) → is_filler_kept row w ≡ true → IsReachable row.outer row.inner c →
+  filled-none : (row : Row) (w : Written) (c : Context) → is_placeholder_kept row w ≡ true → IsReachable row.outer row.inner c →
       (IsAtGroups row.outer row.inner c → ⊥) → filled w es c ≡ None
   filled-none row written.Always c h reach never = refl
   filled-none row written.Never c h reach never = refl
@@ -82,19 +82,19 @@ module _ (es : List Entry) (placed : list_all is_placed es ≡ true) where
   filled-none row written.IfNotIban c h reach never = refl
   filled-none row written.IfScheme c h reach never = refl
   filled-none row written.IfNoScheme c h reach never = refl
-  filled-none row (written.OrFiller filler) c h reach never =
-      ap (λ (v : Option Value). if_so (is_some v) filler.text) (value-none filler.beside row.outer row.inner c h reach never)
+  filled-none row (written.OrPlaceholder placeholder) c h reach never =
+      ap (λ (v : Option Value). if_so (is_some v) placeholder.text) (value-none placeholder.beside row.outer row.inner c h reach never)
   filled-none row written.VatTotal c h reach never = refl
   filled-none row written.AccountingVatTotal c h reach never = refl
 
   row-silent : (row : Row) (term : Term) (c : Context) → row.content ≡ contents.Term term → is_kept_apart row term ≡ true →
-      is_filler_kept row row.written ≡ true
+      is_placeholder_kept row row.written ≡ true
       → context_for row c ≡ c → IsReachable row.outer row.inner c → (IsAtGroups row.outer row.inner c → ⊥) → writes_entry row es c ≡ false
-  row-silent row term c content apart filler own reach never =
+  row-silent row term c content apart placeholder own reach never =
       ap (λ x. is_some (text-by x)) content
       ∙ (ap (λ d. is_some (term_text row es term d)) own
       ∙ (ap (λ v. is_some (text-with v)) (unvalued (is_typed (form_for row.form term)) refl apart) ∙
-      ap is_some (filled-none row row.written c filler reach never)))
+      ap is_some (filled-none row row.written c placeholder reach never)))
     where
       text-by : Content → Option (List ℕ)
       text-by (contents.Term t) = term_text row es t (context_for row c)
@@ -295,9 +295,9 @@ module _ (es : List Entry) (row : Row) (term : Term) (content : row.content ≡ 
 
 module _ (es : List Entry) (placed : list_all is_placed es ≡ true) (row : Row) (term : Term) (content : row.content ≡ contents.Term term)
     (apart : is_kept_apart row term ≡ true)
-    (filler : is_filler_kept row row.written ≡ true) where
+    (placeholder : is_placeholder_kept row row.written ≡ true) where
   silent : (c : Context) → context_for row c ≡ c → IsReachable row.outer row.inner c → (IsAtGroups row.outer row.inner c → ⊥) → writes_entry row es c ≡ false
-  silent c own reach never = row-silent es placed row term c content apart filler own reach never
+  silent c own reach never = row-silent es placed row term c content apart placeholder own reach never
 
   own-root : (f : Group) → row.outer ≡ Some f → (i : Option Group) → row.inner ≡ i → context_for row root_context ≡ root_context
   own-root f o i e =
@@ -384,7 +384,7 @@ row-told es placed row term content h = by (or-either (is_spread_over row) (is_o
     by (inr e) =
         let a = both-true (pointwise same_group (groups_of row.path) (listed row.outer ++ listed row.inner)) _ e in
         let b = both-true (is_some row.outer || is_none row.inner) _ a.1 in
-        let k = both-true (is_kept_apart row term) (is_filler_kept row row.written) b.1 in
+        let k = both-true (is_kept_apart row term) (is_placeholder_kept row row.written) b.1 in
         told-own es row term content None root_context row.path
         (own-hush es placed row term content k.0 k.1 row.outer row.inner refl refl
         (pointwise-sound same_group group-sound (groups_of row.path) (listed row.outer ++ listed row.inner) a.0) b.0)

@@ -2,10 +2,10 @@
 use Rattle.std.specs.Prelude.{◌≡◌, Bool, true, false, ◌&&◌}
 use Rattle.std.proofs.Common.{refl}
 use Rattle.std.specs.List.{list_all}
-use Rattle.bind_rows.specs.declared.tables.Which.{Which}
-use Rattle.bind_rows.specs.declared.tables.Which.TheVariants as variants
+use Rattle.bind_rows.specs.declared.tables.DocumentType.{DocumentType}
+use Rattle.bind_rows.specs.declared.tables.DocumentType.TheVariants as variants
 use Rattle.bind_table.specs.Lines.{plan_of}
-use Rattle.bind_table.specs.Laid.{is_laid}
+use Rattle.bind_table.specs.Laid.{is_writable}
 use Rattle.bind_meaning.specs.Tables.{rows_of}
 use Rattle.ubl_binding.specs.Tables.{invoice_listing, invoice_rows, credit_note_listing, credit_note_rows}
 use Rattle.cii_binding.specs.Table.{cii_listing, cii_rows}
@@ -41,13 +41,14 @@ both : (a b : Bool) → a ≡ true → b ≡ true → (a && b) ≡ true
 both true b e f = f
 both false b e f = e
 
-pub addressed : (which : Which) → is_addressed (rows_of which) ≡ true
+pub addressed : (document_type : DocumentType) → is_addressed (rows_of document_type) ≡ true
 addressed variants.Invoice = both (list_all row_fits invoice_rows) (constants_fit true false (plan_of invoice_rows)) invoice-rows invoice-constants
 addressed variants.CreditNote = both (list_all row_fits credit_note_rows)
     (constants_fit true false (plan_of credit_note_rows)) credit_note-rows credit_note-constants
 addressed variants.Cii = both (list_all row_fits cii_rows) (constants_fit true false (plan_of cii_rows)) cii-rows cii-constants
 
-pub laid : is_laid invoice_rows ≡ true → is_laid credit_note_rows ≡ true → is_laid cii_rows ≡ true → (which : Which) → is_laid (rows_of which) ≡ true
+pub laid : is_writable invoice_rows ≡ true → is_writable credit_note_rows ≡ true → is_writable cii_rows ≡ true → (document_type : DocumentType)
+    → is_writable (rows_of document_type) ≡ true
 laid i n c variants.Invoice = i
 laid i n c variants.CreditNote = n
 laid i n c variants.Cii = c

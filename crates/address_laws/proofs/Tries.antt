@@ -6,7 +6,7 @@ use Rattle.inv_base.specs.Tree.{size}
 use Rattle.term_table.specs.SemanticModel.{terms, extension_rows, listing_rows}
 use Rattle.term_table.specs.Groups.{parent_of, occurrence_of}
 use Rattle.bind_rows.specs.declared.rows.Repeats.TheVariants as repeat
-use Rattle.bind_table.specs.Laid.{is_laid}
+use Rattle.bind_table.specs.Laid.{is_writable}
 use Rattle.bind_table.specs.WellFormed.{first_fault}
 use Rattle.bind_meaning.specs.Trees.{document_of}
 use Rattle.address_laws.specs.AddressTrees.{tree_of}
@@ -36,7 +36,7 @@ pub group-well_formed : first_fault (a_row_through_a_group repeat.Once) ≡ Ok t
 unfolding terms extension_rows listing_rows parent_of occurrence_of
 group-well_formed = refl
 
-pub group-laid : is_laid (a_row_through_a_group repeat.Once) ≡ true
+pub group-laid : is_writable (a_row_through_a_group repeat.Once) ≡ true
 unfolding is_name_start is_name_char
 group-laid = refl
 
@@ -58,7 +58,7 @@ pub constant-well_formed : first_fault a_constant_attribute ≡ Ok tt
 unfolding terms extension_rows listing_rows parent_of occurrence_of
 constant-well_formed = refl
 
-pub constant-laid : is_laid a_constant_attribute ≡ true
+pub constant-laid : is_writable a_constant_attribute ≡ true
 unfolding is_name_start is_name_char
 constant-laid = refl
 

@@ -53,24 +53,24 @@ is_spread repeat.Agreeing = false
 abbrev pub is_spread_over : Row → Bool
 is_spread_over row = is_spread row.repeats && (is_none row.outer && is_none row.inner)
 
--- The term beside which a filler stands has no other of the contexts that the row's path may have.
-abbrev pub is_filler_kept : Row → Written → Bool
-is_filler_kept row written.Always = true
-is_filler_kept row written.Never = true
-is_filler_kept row written.IfIban = true
-is_filler_kept row written.IfNotIban = true
-is_filler_kept row written.IfScheme = true
-is_filler_kept row written.IfNoScheme = true
-is_filler_kept row (written.OrFiller filler) = stands_nowhere_else filler.beside row.outer row.inner
-is_filler_kept row written.VatTotal = true
-is_filler_kept row written.AccountingVatTotal = true
+-- The term beside which a placeholder stands has no other of the contexts that the row's path may have.
+abbrev pub is_placeholder_kept : Row → Written → Bool
+is_placeholder_kept row written.Always = true
+is_placeholder_kept row written.Never = true
+is_placeholder_kept row written.IfIban = true
+is_placeholder_kept row written.IfNotIban = true
+is_placeholder_kept row written.IfScheme = true
+is_placeholder_kept row written.IfNoScheme = true
+is_placeholder_kept row (written.OrPlaceholder placeholder) = stands_nowhere_else placeholder.beside row.outer row.inner
+is_placeholder_kept row written.VatTotal = true
+is_placeholder_kept row written.AccountingVatTotal = true
 
 -- Its path goes through one element for each group of its context and through no other group, and its term has no other of the contexts of such a
 -- path.
 abbrev pub is_own_way : Row → Term → Bool
 is_own_way row term =
     pointwise same_group (groups_of row.path) (listed row.outer ++ listed row.inner)
-    && ((is_some row.outer || is_none row.inner) && (is_kept_apart row term && is_filler_kept row row.written))
+    && ((is_some row.outer || is_none row.inner) && (is_kept_apart row term && is_placeholder_kept row row.written))
 
 abbrev pub row_fits : Row → Bool
 row_fits row = elim row.content [ (contents.Term term) ↦ is_spread_over row || is_own_way row term | (contents.Constant text) ↦ true ]

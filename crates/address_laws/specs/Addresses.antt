@@ -103,7 +103,7 @@ abbrev pub currencies_of : List Entry → Option Step → Row → List Said
 currencies_of es None row = []
 currencies_of es (Some s) row = currencies_at (shows_currency s row) row.leaf (currency_attribute es row)
 
--- what a row says at the end of a way: what it writes in the way's context of an entry, with its currency, or of a filler
+-- what a row says at the end of a way: what it writes in the way's context of an entry, with its currency, or of a placeholder
 abbrev pub said_with : List Entry → Row → Option Step → Option (List ℕ) → List Said
 said_with es row last None = []
 said_with es row last (Some text) = said_by row.leaf text ∷ currencies_of es last row

@@ -8,8 +8,8 @@ ghost use Rattle.inv_terms.specs.declared.entries.Entry.{Entry};
 ghost use Rattle.inv_terms.specs.Listing.{IsInvoice};
 ghost use Rattle.bind_rows.specs.declared.rows.Row.{Row};
 ghost use Rattle.bind_rows.specs.declared.rows.Repeats.TheVariants as repeat;
-ghost use Rattle.bind_rows.specs.declared.tables.Which.{Which};
-ghost use Rattle.bind_table.specs.Laid.{is_laid};
+ghost use Rattle.bind_rows.specs.declared.tables.DocumentType.{DocumentType};
+ghost use Rattle.bind_table.specs.Laid.{is_writable};
 ghost use Rattle.bind_table.specs.WellFormed.{first_fault};
 ghost use Rattle.bind_meaning.specs.Tables.{rows_of};
 ghost use Rattle.bind_meaning.specs.Trees.{document_of};
@@ -19,14 +19,14 @@ ghost use Rattle.address_laws.specs.Addressed.{is_addressed, is_own_way};
 ghost use Rattle.address_laws.specs.EntryAddresses.{address_in, last_step};
 ghost use Rattle.address_laws.specs.Samples as samples;
 
-use cii_binding::cii_is_laid;
-use ubl_binding::{credit_note_is_laid, invoice_is_laid};
+use cii_binding::cii_is_writable;
+use ubl_binding::{credit_note_is_writable, invoice_is_writable};
 
 /// The document of an invoice by a table that is laid and addressed is the tree of its leaves: those of its entries, each at
 /// the address that the entry and the table's row give, the constants whose holders hold an entry, and the elements that are
 /// always written.
 pub fn documents_are_trees_of_leaves()
-    ensures { (rows : List Row) (es : List Entry) → IsInvoice es → is_laid rows ≡ true → is_addressed rows ≡ true →
+    ensures { (rows : List Row) (es : List Entry) → IsInvoice es → is_writable rows ≡ true → is_addressed rows ≡ true →
         document_of rows es ≡ tree_of (leaves_of rows es) }
 {}
 
@@ -41,16 +41,17 @@ pub fn entries_have_their_leaves()
 
 /// The three tables are addressed.
 pub fn tables_are_addressed()
-    ensures { (which : Which) → is_addressed (rows_of which) ≡ true }
+    ensures { (document_type : DocumentType) → is_addressed (rows_of document_type) ≡ true }
 {}
 
 /// So by each of the three tables the document of an invoice is the tree of its leaves.
 pub fn documents_by_the_tables_are_trees_of_leaves()
-    ensures { (which : Which) (es : List Entry) → IsInvoice es → document_of (rows_of which) es ≡ tree_of (leaves_of (rows_of which) es) }
+    ensures { (document_type : DocumentType) (es : List Entry) → IsInvoice es → document_of (rows_of document_type) es
+        ≡ tree_of (leaves_of (rows_of document_type) es) }
 {
-    invoice_is_laid();
-    credit_note_is_laid();
-    cii_is_laid();
+    invoice_is_writable();
+    credit_note_is_writable();
+    cii_is_writable();
 }
 
 /// That a table is well formed and laid isn't enough: by two such tables documents have other numbers of nodes than trees. One
@@ -58,12 +59,12 @@ pub fn documents_by_the_tables_are_trees_of_leaves()
 /// has one leaf, but is written in each. The other has a constant attribute of an element in which a term stands, beside
 /// another term: where that one alone stands, the attribute has no leaf, but is written. Neither is addressed.
 pub fn other_tables_may_differ()
-    ensures group { (first_fault (samples.a_row_through_a_group repeat.Once) ≡ Ok tt) × ((is_laid (samples.a_row_through_a_group repeat.Once) ≡ true)
+    ensures group { (first_fault (samples.a_row_through_a_group repeat.Once) ≡ Ok tt) × ((is_writable (samples.a_row_through_a_group repeat.Once) ≡ true)
         × ((is_addressed (samples.a_row_through_a_group repeat.Once) ≡ false)
         × ((size (document_of (samples.a_row_through_a_group repeat.Once) samples.two_rates) ≡ 11)
         × (size (tree_of (leaves_of (samples.a_row_through_a_group repeat.Once) samples.two_rates)) ≡ 9)))) }
     ensures constant { (first_fault samples.a_constant_attribute ≡ Ok tt) ×
-        ((is_laid samples.a_constant_attribute ≡ true) × ((is_addressed samples.a_constant_attribute ≡ false)
+        ((is_writable samples.a_constant_attribute ≡ true) × ((is_addressed samples.a_constant_attribute ≡ false)
         × ((size (document_of samples.a_constant_attribute samples.an_identifier) ≡ 5) ×
         (size (tree_of (leaves_of samples.a_constant_attribute samples.an_identifier)) ≡ 3)))) }
 {}

@@ -21,8 +21,8 @@ use Rattle.inv_decimal.specs.WrittenNumber.{read_scaled, read_decimal, scaled_te
 use Rattle.inv_decimal.specs.WrittenDay.{read_dashed_day, read_plain_day, dashed_day_text}
 use Rattle.code_lists.specs.CodeFiles.{built_in_lists}
 use Rattle.term_table.specs.declared.terms.Term.{Term}
-use Rattle.term_table.specs.declared.terms.Letter.{Letter}
-use Rattle.term_table.specs.declared.terms.Letter.TheVariants as letters
+use Rattle.term_table.specs.declared.terms.DataType.{DataType}
+use Rattle.term_table.specs.declared.terms.DataType.TheVariants as data_types
 use Rattle.term_table.specs.declared.groups.Group.{Group}
 use Rattle.term_table.specs.declared.groups.Group.TheVariants as groups
 use Rattle.term_table.specs.declared.contexts.Context.{Context}
@@ -55,8 +55,8 @@ use Rattle.xml_write.specs.Canonical.{declaration_line}
 use Rattle.bind_write.specs.Documents.{document_text}
 use Rattle.bind_meaning.specs.declared.tables.Syntax.{Syntax}
 use Rattle.bind_meaning.specs.declared.tables.Syntax.TheVariants as syntaxes
-use Rattle.bind_rows.specs.declared.tables.Which.{Which}
-use Rattle.bind_rows.specs.declared.tables.Which.TheVariants as which
+use Rattle.bind_rows.specs.declared.tables.DocumentType.{DocumentType}
+use Rattle.bind_rows.specs.declared.tables.DocumentType.TheVariants as document_type
 use Rattle.bind_carrying.specs.declared.carrying.NotCarried.{NotCarried}
 use Rattle.bind_carrying.specs.Tables.{target}
 use Rattle.bind_carrying.specs.Carrying.{entries_carried, carrying}
@@ -75,10 +75,10 @@ abbrev answer_text : Result (Unit {0}) NotCarried → List ℕ
 answer_text (Ok x) = codes "carried"
 answer_text (Err f) = codes "condition " ++ (decimal f.condition ++ (codes " " ++ name_text f.term))
 
-abbrev rows_of : Which → List Row
-rows_of which.Invoice = invoice_rows
-rows_of which.CreditNote = credit_note_rows
-rows_of which.Cii = cii_rows
+abbrev rows_of : DocumentType → List Row
+rows_of document_type.Invoice = invoice_rows
+rows_of document_type.CreditNote = credit_note_rows
+rows_of document_type.Cii = cii_rows
 
 abbrev by_target : (List Row → List Entry → Result (Unit {0}) NotCarried) → Syntax → Result Read BindFault → List ℕ
 by_target judge syntax (Ok r) = answer_text (judge (rows_of (target r.entries syntax)) r.entries)
@@ -446,14 +446,14 @@ unfolding entry_at entry cii_rows cii_listing
 no_hundredth = refl
 
 -- a row that a user added, of EXT-1
-own_row : Option Group → Letter → Row
-own_row outer letter = record {
+own_row : Option Group → DataType → Row
+own_row outer data_type = record {
   path = [];
   leaf = leaves.Element;
   outer = outer;
   inner = None;
   content = contents.Term (record { number = 1001; part = 0 });
-  form = forms.Typed letter;
+  form = forms.Typed data_type;
   repeats = repeat.Once;
   written = written.Always;
   check = checks.Nothing;
@@ -466,32 +466,32 @@ line : Context
 line = record { outer = Some (record { group = groups.InvoiceLine; index = 1 }); inner = None }
 
 -- it is carried by a row of its groups and of its value's type alone
-own_carried : entries_carried (cii_rows ++ (own_row None letters.T ∷ [])) (entry 1001 ∷ []) ≡ Ok tt
+own_carried : entries_carried (cii_rows ++ (own_row None data_types.T ∷ [])) (entry 1001 ∷ []) ≡ Ok tt
 unfolding entry_at entry own_row cii_rows cii_listing
 own_carried = refl
 
-own_of_another : entries_carried (cii_rows ++ (own_row None letters.T ∷ [])) (entry 1001 ∷ entry 1002 ∷ []) ≡ Err
+own_of_another : entries_carried (cii_rows ++ (own_row None data_types.T ∷ [])) (entry 1001 ∷ entry 1002 ∷ []) ≡ Err
     (record { condition = 9; term = Some (record { number = 1002; part = 0 }) })
 unfolding entry_at entry own_row cii_rows cii_listing
 own_of_another = refl
 
-own_of_type : entries_carried (cii_rows ++ (own_row None letters.I ∷ [])) (entry 1001 ∷ []) ≡ refused
+own_of_type : entries_carried (cii_rows ++ (own_row None data_types.I ∷ [])) (entry 1001 ∷ []) ≡ refused
 unfolding entry_at entry own_row refused cii_rows cii_listing
 own_of_type = refl
 
-own_of_line : entries_carried (cii_rows ++ (own_row (Some groups.InvoiceLine) letters.T ∷ [])) (entry 1001 ∷ []) ≡ refused
+own_of_line : entries_carried (cii_rows ++ (own_row (Some groups.InvoiceLine) data_types.T ∷ [])) (entry 1001 ∷ []) ≡ refused
 unfolding entry_at entry own_row refused cii_rows cii_listing
 own_of_line = refl
 
-own_in_line : entries_carried (cii_rows ++ (own_row (Some groups.InvoiceLine) letters.T ∷ [])) (entry_at line 1001 ∷ []) ≡ Ok tt
+own_in_line : entries_carried (cii_rows ++ (own_row (Some groups.InvoiceLine) data_types.T ∷ [])) (entry_at line 1001 ∷ []) ≡ Ok tt
 unfolding entry_at own_row line cii_rows cii_listing
 own_in_line = refl
 
-own_around_line : entries_carried (cii_rows ++ (own_row None letters.T ∷ [])) (entry_at line 1001 ∷ []) ≡ refused
+own_around_line : entries_carried (cii_rows ++ (own_row None data_types.T ∷ [])) (entry_at line 1001 ∷ []) ≡ refused
 unfolding entry_at own_row refused line cii_rows cii_listing
 own_around_line = refl
 
 -- a row with a mark is none that a user added
-own_marked : entries_carried (cii_rows ++ (record (own_row None letters.T) { repeats = repeat.Spread } ∷ [])) (entry 1001 ∷ []) ≡ refused
+own_marked : entries_carried (cii_rows ++ (record (own_row None data_types.T) { repeats = repeat.Spread } ∷ [])) (entry 1001 ∷ []) ≡ refused
 unfolding entry_at entry own_row refused cii_rows cii_listing
 own_marked = refl

@@ -16,19 +16,19 @@ use Rattle.inv_terms.specs.Listing.{value_in}
 use Rattle.xml_write.specs.Sizes.{canonical_tags, longest}
 use Rattle.bind_rows.specs.declared.rows.Form.{Form}
 use Rattle.bind_rows.specs.declared.rows.Row.{Row}
-use Rattle.bind_rows.specs.Added.{is_added, letter_of_form}
+use Rattle.bind_rows.specs.Added.{is_added, data_type_of_form}
 use Rattle.bind_rows.specs.Same.{same_or_none, choose}
 use Rattle.bind_meaning.specs.Picks.{has_term}
 use Rattle.bind_meaning.specs.Values.{is_subject_character}
 use Rattle.bind_meaning.specs.Writing.{is_of_type}
 use Rattle.bind_meaning.specs.Trees.{document_of}
 use Rattle.bind_write.specs.Documents.{declarations_for, document_text, node_count}
-use Rattle.bind_rows.specs.declared.tables.Which.{Which}
-use Rattle.bind_rows.specs.declared.tables.Which.TheVariants as which
+use Rattle.bind_rows.specs.declared.tables.DocumentType.{DocumentType}
+use Rattle.bind_rows.specs.declared.tables.DocumentType.TheVariants as document_type
 use Rattle.bind_carrying.specs.declared.conditions.Condition.{Condition}
 use Rattle.bind_carrying.specs.declared.conditions.Condition.TheVariants as conditions
 use Rattle.bind_carrying.specs.declared.carrying.NotCarried.{NotCarried}
-use Rattle.bind_carrying.specs.Tables.{which_of, is_ubl, is_credit_note}
+use Rattle.bind_carrying.specs.Tables.{document_type_of, is_ubl, is_credit_note}
 
 abbrev pub bt : ℕ → Term
 bt n = record { number = n; part = 0 }
@@ -62,18 +62,18 @@ abbrev pub lacks_main : List Entry → Entry → Option Term → Bool
 lacks_main es e None = false
 lacks_main es e (Some main) = is_none (value_in es main e.context)
 
-abbrev pub stands_alone : Which → List Entry → Entry → Bool
+abbrev pub stands_alone : DocumentType → List Entry → Entry → Bool
 stands_alone table es e = lacks_main es e (main_term (is_ubl table) e.term)
 
 -- ---- 2: a scheme in UBL is the one that marks a creditor identifier
 
-abbrev pub marks_creditor : Which → Entry → Bool
+abbrev pub marks_creditor : DocumentType → Entry → Bool
 marks_creditor table e = is_ubl table && ((is_bt 29 1 e.term || is_bt 60 1 e.term) && has_text e (codes "SEPA"))
 
--- ---- 3: a purchase order reference in UBL is the filler beside a sales order reference
+-- ---- 3: a purchase order reference in UBL is the placeholder beside a sales order reference
 
-abbrev pub is_filler : Which → List Entry → Entry → Bool
-is_filler table es e = is_ubl table && (is_bt 13 0 e.term && (has_text e (codes "NA") && stands es 14))
+abbrev pub is_placeholder : DocumentType → List Entry → Entry → Bool
+is_placeholder table es e = is_ubl table && (is_bt 13 0 e.term && (has_text e (codes "NA") && stands es 14))
 
 -- ---- 4: in UBL a subject code isn't three of A-Z and 0-9, or a note without one has the form of a note with one
 
@@ -90,20 +90,20 @@ is_misread_note es e =
     (is_bt 21 0 e.term && not (is_subject (spelled e.value))) ||
     (is_bt 22 0 e.term && (is_none (value_in es (bt 21) e.context) && is_coded_note (spelled e.value)))
 
-abbrev pub is_bad_note : Which → List Entry → Entry → Bool
+abbrev pub is_bad_note : DocumentType → List Entry → Entry → Bool
 is_bad_note table es e = is_ubl table && is_misread_note es e
 
 -- ---- 5: the type isn't one of the table's documents, or a code of BT-8 has no image
 
-abbrev pub is_other_type : Which → List ℕ → Bool
-is_other_type which.Invoice code = is_credit_note code
-is_other_type which.CreditNote code = not (is_credit_note code)
-is_other_type which.Cii code = false
+abbrev pub is_other_type : DocumentType → List ℕ → Bool
+is_other_type document_type.Invoice code = is_credit_note code
+is_other_type document_type.CreditNote code = not (is_credit_note code)
+is_other_type document_type.Cii code = false
 
 abbrev pub has_image : List ℕ → Bool
 has_image code = bytes_eq (codes "3") code || (bytes_eq (codes "35") code || bytes_eq (codes "432") code)
 
-abbrev pub has_bad_code : Which → Entry → Bool
+abbrev pub has_bad_code : DocumentType → Entry → Bool
 has_bad_code table e = (is_bt 3 0 e.term && is_other_type table (spelled e.value)) || (is_bt 8 0 e.term && not (has_image (spelled e.value)))
 
 -- ---- 6: a term whose only place in UBL is a PaymentMeans stands where no PaymentMeans is written
@@ -111,12 +111,12 @@ has_bad_code table e = (is_bt 3 0 e.term && is_other_type table (spelled e.value
 abbrev pub is_payment_term : ℕ → Bool
 is_payment_term n = n == 82 || (n == 83 || (n == 87 || (n == 88 || (n == 89 || n == 91))))
 
-abbrev pub needs_means : Which → Term → Bool
-needs_means which.Invoice term = term.part == 0 && is_payment_term term.number
-needs_means which.CreditNote term = term.part == 0 && (is_payment_term term.number || term.number == 9)
-needs_means which.Cii term = false
+abbrev pub needs_means : DocumentType → Term → Bool
+needs_means document_type.Invoice term = term.part == 0 && is_payment_term term.number
+needs_means document_type.CreditNote term = term.part == 0 && (is_payment_term term.number || term.number == 9)
+needs_means document_type.Cii term = false
 
-abbrev pub lacks_means : Which → List Entry → Entry → Bool
+abbrev pub lacks_means : DocumentType → List Entry → Entry → Bool
 lacks_means table es e = needs_means table e.term && not (stands es 81)
 
 -- ---- 7: a VAT total in the accounting currency, and there is no such currency beside that of the invoice
@@ -146,7 +146,7 @@ has_groups row c = same_or_none row.outer (slot_group c.outer) && same_or_none r
 
 -- The form says the type itself, and it is the value's.
 abbrev pub says_type : Form → Value → Bool
-says_type form value = elim (letter_of_form form) [ None ↦ false | Some letter ↦ is_of_type letter value ]
+says_type form value = elim (data_type_of_form form) [ None ↦ false | Some data_type ↦ is_of_type data_type value ]
 
 -- A user added the row for the entry's term, in its groups and with its type.
 abbrev pub is_row_of : Entry → Row → Bool
@@ -160,10 +160,10 @@ first_unplaced rows es = option_map (λ (e : Entry). record { condition = 9; ter
 
 -- ---- the least condition that fails, and its first entry
 
-abbrev pub fails : Condition → Which → List Entry → Entry → Bool
+abbrev pub fails : Condition → DocumentType → List Entry → Entry → Bool
 fails conditions.Part table es e = stands_alone table es e
 fails conditions.Creditor table es e = marks_creditor table e
-fails conditions.Filler table es e = is_filler table es e
+fails conditions.Placeholder table es e = is_placeholder table es e
 fails conditions.Note table es e = is_bad_note table es e
 fails conditions.Code table es e = has_bad_code table e
 fails conditions.Means table es e = lacks_means table es e
@@ -172,17 +172,18 @@ fails conditions.Currency table es e = has_no_currency es e
 abbrev pub number_of : Condition → ℕ
 number_of conditions.Part = 1
 number_of conditions.Creditor = 2
-number_of conditions.Filler = 3
+number_of conditions.Placeholder = 3
 number_of conditions.Note = 4
 number_of conditions.Code = 5
 number_of conditions.Means = 6
 number_of conditions.Currency = 7
 
 abbrev pub all_conditions : List Condition
-all_conditions = conditions.Part ∷ conditions.Creditor ∷ conditions.Filler ∷ conditions.Note ∷ conditions.Code ∷ conditions.Means ∷ conditions.Currency ∷ []
+all_conditions = conditions.Part ∷ conditions.Creditor ∷ conditions.Placeholder ∷ conditions.Note ∷ conditions.Code ∷ conditions.Means ∷ conditions.Currency ∷
+    []
 
 -- the first entry at which the condition fails
-abbrev pub first_at : Condition → Which → List Entry → Option Entry
+abbrev pub first_at : Condition → DocumentType → List Entry → Option Entry
 first_at condition table es = find (fails condition table es) es
 
 abbrev pub first_term : Option Entry → Option Term
@@ -192,13 +193,13 @@ abbrev pub told : Condition → Option Term → Option NotCarried → Option Not
 told condition None others = others
 told condition (Some term) others = Some (record { condition = number_of condition; term = Some term })
 
-abbrev pub first_failing : List Condition → Which → List Entry → Option NotCarried
+abbrev pub first_failing : List Condition → DocumentType → List Entry → Option NotCarried
 first_failing [] table es = None
 first_failing (condition ∷ conditions) table es = told condition (first_term (first_at condition table es)) (first_failing conditions table es)
 
 -- What the entries show of conditions 1 to 7.
 abbrev pub entries_fail : List Row → List Entry → Option NotCarried
-entries_fail rows es = first_failing all_conditions (which_of rows) es
+entries_fail rows es = first_failing all_conditions (document_type_of rows) es
 
 -- conditions 8 and 9
 abbrev pub rest_carried : Bool → Option NotCarried → Result (Unit {0}) NotCarried

@@ -12,21 +12,21 @@ use Rattle.bind_rows.specs.declared.rows.Row.{Row}
 use Rattle.bind_write.specs.Documents.{root_namespace}
 use Rattle.bind_meaning.specs.declared.tables.Syntax.{Syntax}
 use Rattle.bind_meaning.specs.declared.tables.Syntax.TheVariants as syntaxes
-use Rattle.bind_rows.specs.declared.tables.Which.{Which}
-use Rattle.bind_rows.specs.declared.tables.Which.TheVariants as which
+use Rattle.bind_rows.specs.declared.tables.DocumentType.{DocumentType}
+use Rattle.bind_rows.specs.declared.tables.DocumentType.TheVariants as document_type
 
-abbrev pub table_of : Option Namespace → Which
-table_of (Some spaces.UblInvoice) = which.Invoice
-table_of (Some spaces.UblCreditNote) = which.CreditNote
-table_of _ = which.Cii
+abbrev pub table_of : Option Namespace → DocumentType
+table_of (Some spaces.UblInvoice) = document_type.Invoice
+table_of (Some spaces.UblCreditNote) = document_type.CreditNote
+table_of _ = document_type.Cii
 
-abbrev pub which_of : List Row → Which
-which_of rows = table_of (root_namespace rows)
+abbrev pub document_type_of : List Row → DocumentType
+document_type_of rows = table_of (root_namespace rows)
 
-abbrev pub is_ubl : Which → Bool
-is_ubl which.Invoice = true
-is_ubl which.CreditNote = true
-is_ubl which.Cii = false
+abbrev pub is_ubl : DocumentType → Bool
+is_ubl document_type.Invoice = true
+is_ubl document_type.CreditNote = true
+is_ubl document_type.Cii = false
 
 -- the types of credit notes (UNTDID 1001)
 abbrev pub is_credit_note : List ℕ → Bool
@@ -39,11 +39,11 @@ abbrev pub is_credit_note_value : Option Value → Bool
 is_credit_note_value None = false
 is_credit_note_value (Some value) = is_credit_note (spelled value)
 
-abbrev pub ubl_table : Bool → Which
-ubl_table true = which.CreditNote
-ubl_table false = which.Invoice
+abbrev pub ubl_table : Bool → DocumentType
+ubl_table true = document_type.CreditNote
+ubl_table false = document_type.Invoice
 
 -- in UBL a credit note where BT-3 is one of those types, else an invoice
-abbrev pub target : List Entry → Syntax → Which
+abbrev pub target : List Entry → Syntax → DocumentType
 target es syntaxes.Ubl = ubl_table (is_credit_note_value (value_in es invoice_type root_context))
-target es syntaxes.Cii = which.Cii
+target es syntaxes.Cii = document_type.Cii

@@ -3,15 +3,15 @@ ghost use Rattle.xml_write.specs.Sizes.{most_measured, longest_measured, stopped
 ghost use Rattle.std.specs.List.{list_all};
 ghost use Rattle.inv_terms.specs.declared.entries.Entry.{Entry};
 ghost use Rattle.bind_rows.specs.declared.rows.Row.{Row};
-ghost use Rattle.bind_table.specs.Laid.{is_laid};
+ghost use Rattle.bind_table.specs.Laid.{is_writable};
 ghost use Rattle.bind_write.specs.Documents.{HasSizes};
 ghost use Rattle.bind_write.specs.Sources.{has_plain_attribute};
 ghost use Rattle.bind_carrying.specs.Carrying as spec;
 
 use crate::conditions::{Condition, first_at};
 use crate::placing::first_unplaced;
-use crate::tables::which_of;
-use bind_meaning::Which;
+use crate::tables::document_type_of;
+use bind_meaning::DocumentType;
 use bind_table::Binding;
 use bind_write::measure;
 use inv_terms::Invoice;
@@ -38,7 +38,7 @@ const MOST_NODES: u64 = DOCUMENT_LIMITS.nodes as u64;
 const CONDITIONS: [Condition; 7] = [
     Condition::Part,
     Condition::Creditor,
-    Condition::Filler,
+    Condition::Placeholder,
     Condition::Note,
     Condition::Code,
     Condition::Means,
@@ -46,7 +46,7 @@ const CONDITIONS: [Condition; 7] = [
 ];
 
 /// The least condition on entries that fails.
-fn first_failing(conditions: &[Condition], table: Which, i: &Invoice) -> Option<NotCarried>
+fn first_failing(conditions: &[Condition], table: DocumentType, i: &Invoice) -> Option<NotCarried>
     ensures { result ≡ spec.first_failing conditions.now table i.now }
 {
     'conditions: for condition in conditions {
@@ -66,11 +66,11 @@ fn first_failing(conditions: &[Condition], table: Which, i: &Invoice) -> Option<
 /// Whether a table can carry an invoice. Else the least condition that fails, with the term of the first entry at which it does; condition
 /// 8, on the size of the whole document, has no term. It takes no memory.
 pub fn carries(i: &Invoice, b: &Binding) -> Result<(), NotCarried>
-    requires laid { is_laid b.now ≡ true }
+    requires laid { is_writable b.now ≡ true }
     requires notes { list_all has_plain_attribute b.now ≡ true }
     ensures { result ≡ spec.carrying b.now i.now }
 {
-    match first_failing(&CONDITIONS, which_of(b), i) {
+    match first_failing(&CONDITIONS, document_type_of(b), i) {
         Some(fault) => Err(fault),
         None => rest_carried(&measure(i, b), first_unplaced(i, b.rows())),
     }

@@ -7,7 +7,7 @@ ghost use Rattle.bind_carrying.specs.Carrying as spec;
 ghost use Rattle.bind_carrying.specs.Notes as reading;
 
 use crate::tables::{is_credit_note, is_ubl, is_word};
-use bind_meaning::Which;
+use bind_meaning::DocumentType;
 use inv_base::is_white_space;
 use inv_terms::{Entry, Invoice, Value};
 use term_table::{ROOT, Term};
@@ -19,8 +19,8 @@ pub(crate) enum Condition {
     Part,
     /// No scheme in UBL is the one that marks a creditor identifier.
     Creditor,
-    /// No purchase order reference in UBL is the filler beside a sales order reference.
-    Filler,
+    /// No purchase order reference in UBL is the placeholder beside a sales order reference.
+    Placeholder,
     /// In UBL subject codes are three of A-Z and 0-9, and no other note looks like one with a code.
     Note,
     /// The type is one of the table's documents, and the code of BT-8 has an image.
@@ -87,7 +87,7 @@ fn main_term(ubl: bool, term: Term) -> Option<Term>
     None
 }
 
-fn stands_alone(table: Which, i: &Invoice, e: &Entry) -> bool
+fn stands_alone(table: DocumentType, i: &Invoice, e: &Entry) -> bool
     ensures { result ≡ spec.stands_alone table i.now e.now }
 {
     match main_term(is_ubl(table), e.term) {
@@ -96,14 +96,14 @@ fn stands_alone(table: Which, i: &Invoice, e: &Entry) -> bool
     }
 }
 
-fn marks_creditor(table: Which, e: &Entry) -> bool
+fn marks_creditor(table: DocumentType, e: &Entry) -> bool
     ensures { result ≡ spec.marks_creditor table e.now }
 {
     is_ubl(table) && (is_bt(29, 1, e.term) || is_bt(60, 1, e.term)) && has_text(e, "SEPA")
 }
 
-fn is_filler(table: Which, i: &Invoice, e: &Entry) -> bool
-    ensures { result ≡ spec.is_filler table i.now e.now }
+fn is_placeholder(table: DocumentType, i: &Invoice, e: &Entry) -> bool
+    ensures { result ≡ spec.is_placeholder table i.now e.now }
 {
     is_ubl(table) && is_bt(13, 0, e.term) && has_text(e, "NA") && stands(i, 14)
 }
@@ -189,7 +189,7 @@ fn is_coded_note_value(value: &Value) -> bool
     is_coded_note(value.text(&mut buf))
 }
 
-fn is_bad_note(table: Which, i: &Invoice, e: &Entry) -> bool
+fn is_bad_note(table: DocumentType, i: &Invoice, e: &Entry) -> bool
     ensures { result ≡ spec.is_bad_note table i.now e.now }
 {
     if !is_ubl(table) {
@@ -201,17 +201,17 @@ fn is_bad_note(table: Which, i: &Invoice, e: &Entry) -> bool
             && is_coded_note_value(&e.value)
 }
 
-fn is_other_type(table: Which, code: &str) -> bool
+fn is_other_type(table: DocumentType, code: &str) -> bool
     ensures { result ≡ spec.is_other_type table (chars code.now) }
 {
     match table {
-        Which::Invoice => is_credit_note(code),
-        Which::CreditNote => !is_credit_note(code),
-        Which::Cii => false,
+        DocumentType::Invoice => is_credit_note(code),
+        DocumentType::CreditNote => !is_credit_note(code),
+        DocumentType::Cii => false,
     }
 }
 
-fn is_other_type_value(table: Which, value: &Value) -> bool
+fn is_other_type_value(table: DocumentType, value: &Value) -> bool
     ensures { result ≡ spec.is_other_type table (values.spelled value.now) }
 {
     let mut buf = [0; 40];
@@ -231,7 +231,7 @@ fn has_image_value(value: &Value) -> bool
     has_image(value.text(&mut buf))
 }
 
-fn has_bad_code(table: Which, e: &Entry) -> bool
+fn has_bad_code(table: DocumentType, e: &Entry) -> bool
     ensures { result ≡ spec.has_bad_code table e.now }
 {
     is_bt(3, 0, e.term) && is_other_type_value(table, &e.value)
@@ -244,17 +244,18 @@ fn is_payment_term(number: u16) -> bool
     matches!(number, 82 | 83 | 87 | 88 | 89 | 91)
 }
 
-fn needs_means(table: Which, term: Term) -> bool
+fn needs_means(table: DocumentType, term: Term) -> bool
     ensures { result ≡ spec.needs_means table term }
 {
     match table {
-        Which::Invoice => term.part == 0 && is_payment_term(term.number),
-        Which::CreditNote => term.part == 0 && (is_payment_term(term.number) || term.number == 9),
-        Which::Cii => false,
+        DocumentType::Invoice => term.part == 0 && is_payment_term(term.number),
+        DocumentType::CreditNote => term.part == 0
+            && (is_payment_term(term.number) || term.number == 9),
+        DocumentType::Cii => false,
     }
 }
 
-fn lacks_means(table: Which, i: &Invoice, e: &Entry) -> bool
+fn lacks_means(table: DocumentType, i: &Invoice, e: &Entry) -> bool
     ensures { result ≡ spec.lacks_means table i.now e.now }
 {
     needs_means(table, e.term) && !stands(i, 81)
@@ -295,13 +296,13 @@ fn has_no_currency(i: &Invoice, e: &Entry) -> bool
 
 impl Condition {
     /// Whether it fails at an entry of the invoice.
-    fn fails_at(self, table: Which, i: &Invoice, e: &Entry) -> bool
+    fn fails_at(self, table: DocumentType, i: &Invoice, e: &Entry) -> bool
         ensures { result ≡ spec.fails self table i.now e.now }
     {
         match self {
             Condition::Part => stands_alone(table, i, e),
             Condition::Creditor => marks_creditor(table, e),
-            Condition::Filler => is_filler(table, i, e),
+            Condition::Placeholder => is_placeholder(table, i, e),
             Condition::Note => is_bad_note(table, i, e),
             Condition::Code => has_bad_code(table, e),
             Condition::Means => lacks_means(table, i, e),
@@ -316,7 +317,7 @@ impl Condition {
         match self {
             Condition::Part => 1,
             Condition::Creditor => 2,
-            Condition::Filler => 3,
+            Condition::Placeholder => 3,
             Condition::Note => 4,
             Condition::Code => 5,
             Condition::Means => 6,
@@ -326,7 +327,7 @@ impl Condition {
 }
 
 /// The term of the first entry at which the condition fails.
-pub(crate) fn first_at(condition: Condition, table: Which, i: &Invoice) -> Option<Term>
+pub(crate) fn first_at(condition: Condition, table: DocumentType, i: &Invoice) -> Option<Term>
     ensures { result ≡ spec.first_term (spec.first_at condition table i.now) }
 {
     let entries = i.entries();

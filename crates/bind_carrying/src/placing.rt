@@ -5,7 +5,7 @@ ghost use Rattle.bind_meaning.specs.Picks.{has_term};
 ghost use Rattle.bind_carrying.specs.Carrying as spec;
 
 use crate::carrying::NotCarried;
-use bind_rows::{Content, Form, Row, is_added, is_same_or_none, letter_of_form};
+use bind_rows::{Content, Form, Row, data_type_of_form, is_added, is_same_or_none};
 use bind_write::is_of_type;
 use inv_terms::{Entry, Invoice, Value};
 use term_table::{Context, Group, Term};
@@ -31,9 +31,9 @@ fn has_groups(row: &Row, context: Context) -> bool
 fn says_type(form: Form, value: &Value) -> bool
     ensures { result ≡ spec.says_type form value.now }
 {
-    match letter_of_form(form) {
+    match data_type_of_form(form) {
         None => false,
-        Some(letter) => is_of_type(letter, value),
+        Some(data_type) => is_of_type(data_type, value),
     }
 }
 

@@ -2,7 +2,7 @@ ghost use Rattle.std.specs.Prelude.{◌≡◌, Some, true, bytes_eq, chars, nat_
 ghost use Rattle.std.specs.List.{list_all};
 ghost use Rattle.bind_carrying.specs.Tables as spec;
 
-use bind_meaning::{Syntax, Which};
+use bind_meaning::{DocumentType, Syntax};
 use bind_rows::Namespace;
 use bind_table::Binding;
 use inv_terms::{Invoice, Value};
@@ -11,33 +11,33 @@ use term_table::{ROOT, Term};
 /// The type of the invoice, BT-3.
 const INVOICE_TYPE: Term = Term { number: 3, part: 0 };
 
-fn table_of(root: Namespace) -> Which
+fn table_of(root: Namespace) -> DocumentType
     ensures { result ≡ spec.table_of (Some root) }
 {
     match root {
-        Namespace::UblInvoice => Which::Invoice,
-        Namespace::UblCreditNote => Which::CreditNote,
-        _ => Which::Cii,
+        Namespace::UblInvoice => DocumentType::Invoice,
+        Namespace::UblCreditNote => DocumentType::CreditNote,
+        _ => DocumentType::Cii,
     }
 }
 
 /// Which of the three tables it is, by its root.
-pub(crate) fn which_of(b: &Binding) -> Which
-    ensures { result ≡ spec.which_of b.now }
+pub(crate) fn document_type_of(b: &Binding) -> DocumentType
+    ensures { result ≡ spec.document_type_of b.now }
 {
     match b.lines().first() {
         Some(line) => table_of(line.step.name.namespace),
-        None => Which::Cii,
+        None => DocumentType::Cii,
     }
 }
 
 /// Whether the table is one of UBL.
-pub(crate) fn is_ubl(table: Which) -> bool
+pub(crate) fn is_ubl(table: DocumentType) -> bool
     ensures { result ≡ spec.is_ubl table }
 {
     match table {
-        Which::Invoice | Which::CreditNote => true,
-        Which::Cii => false,
+        DocumentType::Invoice | DocumentType::CreditNote => true,
+        DocumentType::Cii => false,
     }
 }
 
@@ -64,18 +64,18 @@ fn is_credit_note_value(value: &Value) -> bool
 }
 
 /// The table by which an invoice is written in a syntax: in UBL as a credit note exactly where its type, BT-3, is 381 or 396.
-pub fn target(i: &Invoice, syntax: Syntax) -> Which
+pub fn target(i: &Invoice, syntax: Syntax) -> DocumentType
     ensures { result ≡ spec.target i.now syntax }
 {
     match syntax {
-        Syntax::Cii => Which::Cii,
+        Syntax::Cii => DocumentType::Cii,
         Syntax::Ubl => match i.value(INVOICE_TYPE, ROOT) {
-            None => Which::Invoice,
+            None => DocumentType::Invoice,
             Some(value) => {
                 if is_credit_note_value(value) {
-                    Which::CreditNote
+                    DocumentType::CreditNote
                 } else {
-                    Which::Invoice
+                    DocumentType::Invoice
                 }
             }
         },

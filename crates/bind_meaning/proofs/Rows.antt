@@ -27,8 +27,8 @@ use Rattle.term_table.specs.declared.terms.Term.{Term}
 use Rattle.term_table.specs.declared.contexts.Slot.{Slot}
 use Rattle.term_table.specs.declared.contexts.Context.{Context}
 use Rattle.inv_terms.specs.declared.entries.Entry.{Entry}
-use Rattle.inv_terms.specs.declared.lacks.Name.{Name as FaultName}
-use Rattle.inv_terms.specs.declared.lacks.Name.TheVariants as names
+use Rattle.inv_terms.specs.declared.violations.Name.{Name as FaultName}
+use Rattle.inv_terms.specs.declared.violations.Name.TheVariants as names
 use Rattle.inv_terms.specs.Values.{value_of, spelled}
 use Rattle.term_table.specs.SemanticModel.{terms, extension_rows, listing_rows}
 use Rattle.term_table.specs.Groups.{occurrence_of, parent_of, label_of}

@@ -7,7 +7,7 @@ use Rattle.inv_base.specs.Tree.{Node}
 use Rattle.code_lists.specs.CodeFiles.{Lists}
 use Rattle.term_table.specs.Contexts.{is_inside}
 use Rattle.term_table.specs.declared.contexts.Seat.{Seat}
-use Rattle.inv_terms.specs.declared.lacks.Lack.{Lack}
+use Rattle.inv_terms.specs.declared.violations.ModelViolation.{ModelViolation}
 use Rattle.inv_terms.specs.Lacking.{all_missing}
 use Rattle.bind_rows.specs.declared.rows.Row.{Row}
 use Rattle.bind_meaning.specs.declared.fault.BindKind.TheVariants as kinds
@@ -19,17 +19,17 @@ use Rattle.bind_meaning.specs.Terms.{told, constant_picks, term_picks, place_all
 
 -- ---- every fault: those of what picks say, of indicators, and all that is missing in each context
 
-abbrev pub lack_found : List Node → Room → Lack → Found
-lack_found nodes room lack = found (missing_place nodes room lack.place) kinds.Missing (name_of lack.fault) room.element
+abbrev pub violation_found : List Node → Room → ModelViolation → Found
+violation_found nodes room violation = found (missing_place nodes room violation.place) kinds.Missing (name_of violation.fault) room.element
 
-abbrev pub lacks_in : List Node → List Seat → Room → List Found
-lacks_in nodes seats room =
-    map (lack_found nodes room) (all_missing (filter (λ (seat : Seat). is_inside room.context seat.context) seats) room.context)
+abbrev pub violations_in : List Node → List Seat → Room → List Found
+violations_in nodes seats room =
+    map (violation_found nodes room) (all_missing (filter (λ (seat : Seat). is_inside room.context seat.context) seats) room.context)
 
 abbrev pub every_fault : List Node → Lists → Currencies → List Row → List Placed → List Found
 every_fault nodes lists c rows ps =
     faults_behind nodes lists c [] (told nodes ps)
-    ++ (flat_map (wrong_word nodes) (constant_picks nodes rows) ++ flat_map (lacks_in nodes (map seat_of (told nodes ps))) (rooms ps))
+    ++ (flat_map (wrong_word nodes) (constant_picks nodes rows) ++ flat_map (violations_in nodes (map seat_of (told nodes ps))) (rooms ps))
 
 -- ---- in their order, at one spot once
 

@@ -7,13 +7,13 @@ use Rattle.std.specs.Cmp.Lexicographic.{slice_cmp}
 use Rattle.std.specs.Str.{bytes_eq}
 use Rattle.inv_base.specs.Tree.{Node}
 use Rattle.code_lists.specs.CodeFiles.{Lists}
-use Rattle.term_table.specs.declared.terms.Letter.TheVariants as letters
+use Rattle.term_table.specs.declared.terms.DataType.TheVariants as data_types
 use Rattle.inv_terms.specs.declared.values.Value.{Value}
 use Rattle.term_table.specs.declared.contexts.Context.{Context}
-use Rattle.inv_terms.specs.declared.lacks.Name.{Name}
-use Rattle.inv_terms.specs.declared.lacks.Name.TheVariants as names
-use Rattle.inv_terms.specs.declared.lacks.TermFault.TheVariants as lacks
-use Rattle.inv_terms.specs.declared.lacks.TermFault.{TermFault}
+use Rattle.inv_terms.specs.declared.violations.Name.{Name}
+use Rattle.inv_terms.specs.declared.violations.Name.TheVariants as names
+use Rattle.inv_terms.specs.declared.violations.TermFault.TheVariants as violations
+use Rattle.inv_terms.specs.declared.violations.TermFault.{TermFault}
 use Rattle.term_table.specs.Contexts.{same_context, is_inside}
 use Rattle.term_table.specs.declared.contexts.Seat.{Seat}
 use Rattle.term_table.specs.SemanticModel.{same_term}
@@ -33,7 +33,7 @@ use Rattle.bind_meaning.specs.Elements.{string_at, attributes_named, has_element
 use Rattle.bind_meaning.specs.Picks.{Pick, term_in}
 use Rattle.bind_meaning.specs.Seats.{Placed, context_of, Room}
 use Rattle.bind_meaning.specs.Currencies.{Currencies, amount_currency}
-use Rattle.bind_meaning.specs.Values.{Said, said, form_for, type_of}
+use Rattle.bind_meaning.specs.Values.{ParsedValue, parsed, form_for, type_of}
 
 -- A fault with its place in the order of faults: of two the one with the smaller place is told.
 pub record Found : Type 0 where
@@ -48,17 +48,17 @@ found place kind name node = record { place = place; fault = record { kind = kin
 -- something that a pick says, in its context
 pub record Told : Type 0 where
   pub placed : Placed
-  pub said : Said
+  pub parsed : ParsedValue
 
-abbrev pub said_by : List Node → Placed → List Said
-said_by nodes p = elim (term_in p.pick.row.content) [ None ↦ [] | Some term ↦ said p.pick.row.form term (string_at nodes p.pick.node) ]
+abbrev pub parsed_by : List Node → Placed → List ParsedValue
+parsed_by nodes p = elim (term_in p.pick.row.content) [ None ↦ [] | Some term ↦ parsed p.pick.row.form term (string_at nodes p.pick.node) ]
 
 abbrev pub told_by : List Node → Placed → List Told
-told_by nodes p = map (λ s. record { placed = p; said = s }) (said_by nodes p)
+told_by nodes p = map (λ s. record { placed = p; parsed = s }) (parsed_by nodes p)
 
 -- Both are of one term in one context.
 abbrev pub is_of_seat : Told → Told → Bool
-is_of_seat a b = elim (same_term a.said.term b.said.term) [ true ↦ same_context (context_of a.placed) (context_of b.placed) | false ↦ false ]
+is_of_seat a b = elim (same_term a.parsed.term b.parsed.term) [ true ↦ same_context (context_of a.placed) (context_of b.placed) | false ↦ false ]
 
 -- the first of the same term and context among those before
 abbrev pub first_before : List Told → Told → Option Told
@@ -90,13 +90,13 @@ breaks nodes checks.Format n = is_other_format nodes n
 breaks nodes (checks.Indicator term) n = false
 
 abbrev pub is_bad : List Node → Told → Bool
-is_bad nodes t = is_none t.said.value || breaks nodes t.placed.pick.row.check t.placed.pick.node
+is_bad nodes t = is_none t.parsed.value || breaks nodes t.placed.pick.row.check t.placed.pick.node
 
 abbrev pub is_not_listed : Lists → Told → Bool
-is_not_listed lists t = is_outside lists (list_of t.said.term (context_of t.placed)) (option_and_then code_in t.said.value)
+is_not_listed lists t = is_outside lists (list_of t.parsed.term (context_of t.placed)) (option_and_then code_in t.parsed.value)
 
 abbrev pub is_amount : Told → Bool
-is_amount t = elim (type_of (form_for t.placed.pick.row.form t.said.term) t.said.term) [ Some letters.A ↦ true | _ ↦ false ]
+is_amount t = elim (type_of (form_for t.placed.pick.row.form t.parsed.term) t.parsed.term) [ Some data_types.A ↦ true | _ ↦ false ]
 
 abbrev pub is_accounting_total : Pick → Bool
 is_accounting_total pick = elim pick.row.written [ written.AccountingVatTotal ↦ true | _ ↦ false ]
@@ -120,7 +120,7 @@ disagree (Some a) (Some b) = not (same_value a b)
 
 abbrev pub is_disagreeing : Option Told → Told → Bool
 is_disagreeing None t = false
-is_disagreeing (Some first) t = disagree first.said.value t.said.value
+is_disagreeing (Some first) t = disagree first.parsed.value t.parsed.value
 
 -- A fault with whether it is there, and the first that is.
 pub record Cause : Type 0 where
@@ -158,7 +158,7 @@ place_at pick kind = pick.node ∷ (0 ∷ (pick.place ∷ (rank kind ∷ [])))
 abbrev pub fault_of : List Node → Lists → Currencies → Option Told → Told → List Found
 fault_of nodes lists c before t = elim (first_cause (causes nodes lists c before t)) [
   | None ↦ []
-  | Some kind ↦ found (place_at t.placed.pick kind) kind (names.Term t.said.term) t.placed.pick.node ∷ []
+  | Some kind ↦ found (place_at t.placed.pick kind) kind (names.Term t.parsed.term) t.placed.pick.node ∷ []
 ]
 
 -- of each, with those before it
@@ -186,19 +186,19 @@ abbrev pub depth : Context → ℕ
 depth context = elim context.outer [ None ↦ 0 | Some a ↦ elim context.inner [ None ↦ 1 | Some b ↦ 2 ] ]
 
 abbrev pub name_of : TermFault → Name
-name_of (lacks.Missing name) = name
-name_of (lacks.CodeNotListed term) = names.Term term
+name_of (violations.Missing name) = name
+name_of (violations.CodeNotListed term) = names.Term term
 
 abbrev pub missing_place : List Node → Room → List ℕ → List ℕ
 missing_place nodes room place = last_inside nodes room.element ∷ (1 ∷ ((2 - depth room.context) ∷ place))
 
 abbrev pub seat_of : Told → Seat
-seat_of t = record { term = t.said.term; context = context_of t.placed }
+seat_of t = record { term = t.parsed.term; context = context_of t.placed }
 
 abbrev pub missing_in : List Node → List Seat → Room → List Found
 missing_in nodes seats room = elim (first_missing (filter (λ (seat : Seat). is_inside room.context seat.context) seats) room.context) [
   | None ↦ []
-  | Some lack ↦ found (missing_place nodes room lack.place) kinds.Missing (name_of lack.fault) room.element ∷ []
+  | Some violation ↦ found (missing_place nodes room violation.place) kinds.Missing (name_of violation.fault) room.element ∷ []
 ]
 
 -- ---- the first of all

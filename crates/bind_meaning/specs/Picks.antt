@@ -14,7 +14,7 @@ use Rattle.bind_rows.specs.declared.rows.Step.{Step}
 use Rattle.bind_rows.specs.declared.rows.Row.{Row}
 use Rattle.bind_rows.specs.declared.rows.Content.{Content}
 use Rattle.bind_rows.specs.declared.rows.Content.TheVariants as contents
-use Rattle.bind_rows.specs.declared.rows.Filler.{Filler}
+use Rattle.bind_rows.specs.declared.rows.Placeholder.{Placeholder}
 use Rattle.bind_rows.specs.declared.rows.Written.TheVariants as written
 use Rattle.bind_rows.specs.Same.{same_or_none}
 use Rattle.bind_meaning.specs.Elements.{met, attributes_named, is_blank_at, string_at}
@@ -47,7 +47,7 @@ leaves_of nodes (leaves.Attribute local) n = flat_map (λ m. filled nodes (attri
 abbrev pub picks_of_way : List Node → ℕ → Row → List ℕ → List Pick
 picks_of_way nodes k row way = map (λ n. record { place = k; row = row; elements = way; node = n }) (leaves_of nodes row.leaf (last_of way))
 
--- what the row picks, but for the rules on fillers and currencies, in document order
+-- what the row picks, but for the rules on placeholders and currencies, in document order
 abbrev pub nodes_picked : List Node → ℕ → Row → List Pick
 nodes_picked nodes k row = flat_map (picks_of_way nodes k row) (ways nodes row.path 0)
 
@@ -79,7 +79,7 @@ rows_where test rows = filter (λ (r : Numbered). test r.row) (numbered 1 rows)
 abbrev pub all_picked : List Node → List Numbered → List Pick
 all_picked nodes rows = flat_map (λ (r : Numbered). nodes_picked nodes r.place r.row) rows
 
--- ---- fillers
+-- ---- placeholders
 
 -- the elements above the last one of a way
 abbrev pub around_last : List ℕ → List ℕ
@@ -87,19 +87,20 @@ around_last [] = []
 around_last (n ∷ []) = []
 around_last (n ∷ (m ∷ ns)) = n ∷ around_last (m ∷ ns)
 
--- The pick is a filler: it has the filler's text, and the term beside it stands in the same element.
-abbrev pub stands_beside : List Pick → Filler → Pick → Bool
-stands_beside picks filler pick = list_any (λ (other : Pick). has_term filler.beside other.row &&
+-- The pick is a placeholder: it has the placeholder's text, and the term beside it stands in the same element.
+abbrev pub stands_beside : List Pick → Placeholder → Pick → Bool
+stands_beside picks placeholder pick = list_any (λ (other : Pick). has_term placeholder.beside other.row &&
     bytes_eq (around_last other.elements) (around_last pick.elements)) picks
 
-abbrev pub is_filler : List Node → List Pick → Pick → Bool
-is_filler nodes picks pick = elim pick.row.written [
-  | (written.OrFiller filler) ↦ elim (bytes_eq (trimmed (string_at nodes pick.node)) filler.text) [ true ↦ stands_beside picks filler pick | false ↦ false ]
+abbrev pub is_placeholder : List Node → List Pick → Pick → Bool
+is_placeholder nodes picks pick = elim pick.row.written [
+  | (written.OrPlaceholder placeholder) ↦ elim (bytes_eq (trimmed (string_at nodes pick.node)) placeholder.text) [ true ↦ stands_beside picks placeholder pick
+      | false ↦ false ]
   | _ ↦ false
 ]
 
-abbrev pub without_fillers : List Node → List Pick → List Pick
-without_fillers nodes picks = filter (λ pick. not (is_filler nodes picks pick)) picks
+abbrev pub without_placeholders : List Node → List Pick → List Pick
+without_placeholders nodes picks = filter (λ pick. not (is_placeholder nodes picks pick)) picks
 
 -- ---- the elements of groups
 

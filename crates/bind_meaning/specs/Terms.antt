@@ -12,7 +12,7 @@ use Rattle.bind_rows.specs.declared.rows.Row.{Row}
 use Rattle.bind_meaning.specs.declared.fault.BindFault.{BindFault}
 use Rattle.bind_meaning.specs.Names.{has_element_name}
 use Rattle.bind_meaning.specs.Elements.{is_element}
-use Rattle.bind_meaning.specs.Picks.{Pick, has_any_term, rows_where, all_picked, without_fillers}
+use Rattle.bind_meaning.specs.Picks.{Pick, has_any_term, rows_where, all_picked, without_placeholders}
 use Rattle.bind_meaning.specs.Currencies.{Currencies, currencies, in_their_currencies}
 use Rattle.bind_meaning.specs.Seats.{Placed, placed, context_of, rooms}
 use Rattle.bind_meaning.specs.Judging.{Told, told_by, first_before, Found, faults_behind, wrong_word, missing_in, seat_of, least}
@@ -23,7 +23,7 @@ in_order nodes picks = flat_map (λ (node : Node). filter (λ (pick : Pick). pic
 
 -- what the rows with a term pick
 abbrev pub term_picks : List Node → Currencies → List Row → List Pick
-term_picks nodes c rows = in_order nodes (in_their_currencies nodes c (without_fillers nodes (all_picked nodes (rows_where has_any_term rows))))
+term_picks nodes c rows = in_order nodes (in_their_currencies nodes c (without_placeholders nodes (all_picked nodes (rows_where has_any_term rows))))
 
 -- what the other rows pick, which hold constants
 abbrev pub constant_picks : List Node → List Row → List Pick
@@ -43,7 +43,7 @@ firsts_behind before (t ∷ ts) = elim (first_before before t) [
 ]
 
 abbrev pub entry_of : Told → List Entry
-entry_of t = elim t.said.value [ None ↦ [] | Some value ↦ record { context = context_of t.placed; term = t.said.term; value = value } ∷ [] ]
+entry_of t = elim t.parsed.value [ None ↦ [] | Some value ↦ record { context = context_of t.placed; term = t.parsed.term; value = value } ∷ [] ]
 
 abbrev pub seat_of_entry : Entry → Seat
 seat_of_entry e = record { term = e.term; context = e.context }

@@ -4,7 +4,7 @@ use Rattle.std.specs.Prelude.{ℕ, Bool, true, false, not, ◌&&◌, ◌||◌, L
 use Rattle.std.specs.List.{list_any, range_with_len}
 use Rattle.inv_base.specs.Tree.{Forest, no_more, a_text, an_element, Name, Attribute}
 use Rattle.term_table.specs.declared.groups.Group.{Group}
-use Rattle.term_table.specs.declared.terms.Letter.TheVariants as letters
+use Rattle.term_table.specs.declared.terms.DataType.TheVariants as data_types
 use Rattle.term_table.specs.declared.terms.Term.{Term}
 use Rattle.term_table.specs.declared.contexts.Slot.{Slot}
 use Rattle.term_table.specs.declared.contexts.Context.{Context}
@@ -98,7 +98,7 @@ is_vat_total written.AccountingVatTotal = true
 is_vat_total _ = false
 
 abbrev pub is_amount : Row → Bool
-is_amount row = elim (term_in row.content) [ None ↦ false | Some term ↦ elim (type_of (form_for row.form term) term) [ Some letters.A ↦ true | _ ↦ false ] ]
+is_amount row = elim (term_in row.content) [ None ↦ false | Some term ↦ elim (type_of (form_for row.form term) term) [ Some data_types.A ↦ true | _ ↦ false ] ]
 
 -- UBL writes each amount with its currency, CII the VAT totals alone
 abbrev pub shows_currency : Step → Row → Bool

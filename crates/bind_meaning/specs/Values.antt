@@ -8,22 +8,22 @@ use Rattle.term_table.specs.declared.terms.Term.{Term}
 use Rattle.inv_terms.specs.declared.values.Value.{Value}
 use Rattle.inv_terms.specs.declared.values.Value.TheVariants as values
 use Rattle.inv_terms.specs.Values.{is_blank, trimmed, value_of}
-use Rattle.term_table.specs.declared.terms.Letter.{Letter}
-use Rattle.term_table.specs.declared.terms.Letter.TheVariants as letters
+use Rattle.term_table.specs.declared.terms.DataType.{DataType}
+use Rattle.term_table.specs.declared.terms.DataType.TheVariants as data_types
 use Rattle.term_table.specs.SemanticModel.{is_extension}
-use Rattle.term_table.specs.Rows.{is_base64, letter_of}
+use Rattle.term_table.specs.Rows.{is_base64, data_type_of}
 use Rattle.bind_rows.specs.declared.rows.Form.{Form}
 use Rattle.bind_rows.specs.declared.rows.Form.TheVariants as forms
-use Rattle.bind_rows.specs.Added.{letter_of_form}
+use Rattle.bind_rows.specs.Added.{data_type_of_form}
 
 -- A value that is told of a term: none where the string says none.
-pub record Said : Type 0 where
+pub record ParsedValue : Type 0 where
   pub term : Term
   pub value : Option Value
 
 -- by the type of the term, which is one wherever it stands
 abbrev pub by_type : Term → List ℕ → Option Value
-by_type term string = option_and_then (λ letter. value_of letter string) (letter_of term)
+by_type term string = option_and_then (λ data_type. value_of data_type string) (data_type_of term)
 
 -- ---- dates without dashes (UN/CEFACT, format 102)
 
@@ -61,20 +61,20 @@ note = record { number = 22; part = 0 }
 abbrev pub is_subject_character : ℕ → Bool
 is_subject_character c = is_within 65 90 c || is_within 48 57 c
 
-abbrev pub plain_note : List ℕ → List Said
+abbrev pub plain_note : List ℕ → List ParsedValue
 plain_note string = record { term = note; value = by_type note string } ∷ []
 
 -- The note comes first: what is wrong with both is told of it.
-abbrev pub coded : List ℕ → List ℕ → List Said
+abbrev pub coded : List ℕ → List ℕ → List ParsedValue
 coded code text = record { term = note; value = by_type note text } ∷ (record { term = subject_code; value = by_type subject_code code } ∷ [])
 
-abbrev pub note_behind : List ℕ → ℕ → ℕ → ℕ → ℕ → ℕ → List ℕ → List Said
+abbrev pub note_behind : List ℕ → ℕ → ℕ → ℕ → ℕ → ℕ → List ℕ → List ParsedValue
 note_behind string first a b c last text = elim ((first == 35) && (last == 35)) [
   | true ↦ elim (list_all is_subject_character (a ∷ b ∷ c ∷ []) && not (is_blank text)) [ true ↦ coded (a ∷ b ∷ c ∷ []) text | false ↦ plain_note string ]
   | false ↦ plain_note string
 ]
 
-abbrev pub note_of : List ℕ → List Said
+abbrev pub note_of : List ℕ → List ParsedValue
 note_of (first ∷ (a ∷ (b ∷ (c ∷ (last ∷ text))))) = note_behind (first ∷ (a ∷ (b ∷ (c ∷ (last ∷ text))))) first a b c last text
 note_of string = plain_note string
 
@@ -83,34 +83,34 @@ note_of string = plain_note string
 abbrev pub is_term : ℕ → Term → Bool
 is_term n term = (term.number == n) && (term.part == 0)
 
-abbrev pub is_day : Option Letter → Bool
-is_day letter = elim letter [ Some letters.D ↦ true | _ ↦ false ]
+abbrev pub is_day : Option DataType → Bool
+is_day data_type = elim data_type [ Some data_types.D ↦ true | _ ↦ false ]
 
 -- The form is one for the term: a day without dashes for a term of that type, BT-8 by UNTDID 2475, BT-22 behind its subject code,
 -- a type of its own for a term that a user added.
 abbrev pub suits : Form → Term → Bool
 suits forms.Model term = true
-suits forms.PlainDate term = is_day (letter_of term)
+suits forms.PlainDate term = is_day (data_type_of term)
 suits forms.DueDateTypeCode term = is_term 8 term
 suits forms.CodedNote term = is_term 22 term
-suits (forms.Typed letter) term = is_extension term && not (is_base64 letter)
+suits (forms.Typed data_type) term = is_extension term && not (is_base64 data_type)
 suits forms.TypedPlainDate term = is_extension term
 
 -- the type of the values of a term that stands in this form
-abbrev pub type_of : Form → Term → Option Letter
-type_of form term = elim (letter_of_form form) [ None ↦ letter_of term | Some letter ↦ Some letter ]
+abbrev pub type_of : Form → Term → Option DataType
+type_of form term = elim (data_type_of_form form) [ None ↦ data_type_of term | Some data_type ↦ Some data_type ]
 
 -- A form that isn't one for the row's term counts for nothing.
 abbrev pub form_for : Form → Term → Form
 form_for form term = elim (suits form term) [ true ↦ form | false ↦ forms.Model ]
 
-abbrev pub said_in : Form → Term → List ℕ → List Said
-said_in forms.Model term string = record { term = term; value = by_type term string } ∷ []
-said_in forms.PlainDate term string = record { term = term; value = plain_date string } ∷ []
-said_in forms.DueDateTypeCode term string = record { term = term; value = due_date_type string } ∷ []
-said_in forms.CodedNote term string = note_of string
-said_in (forms.Typed letter) term string = record { term = term; value = value_of letter string } ∷ []
-said_in forms.TypedPlainDate term string = record { term = term; value = plain_date string } ∷ []
+abbrev pub parsed_in : Form → Term → List ℕ → List ParsedValue
+parsed_in forms.Model term string = record { term = term; value = by_type term string } ∷ []
+parsed_in forms.PlainDate term string = record { term = term; value = plain_date string } ∷ []
+parsed_in forms.DueDateTypeCode term string = record { term = term; value = due_date_type string } ∷ []
+parsed_in forms.CodedNote term string = note_of string
+parsed_in (forms.Typed data_type) term string = record { term = term; value = value_of data_type string } ∷ []
+parsed_in forms.TypedPlainDate term string = record { term = term; value = plain_date string } ∷ []
 
-abbrev pub said : Form → Term → List ℕ → List Said
-said form term string = said_in (form_for form term) term string
+abbrev pub parsed : Form → Term → List ℕ → List ParsedValue
+parsed form term string = parsed_in (form_for form term) term string

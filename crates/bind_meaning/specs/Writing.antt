@@ -6,8 +6,8 @@ use Rattle.inv_base.specs.Characters.{is_within}
 use Rattle.inv_decimal.specs.WrittenNumber.{scaled_text}
 use Rattle.inv_decimal.specs.WrittenDay.{plain_day_text}
 use Rattle.term_table.specs.declared.groups.Group.{Group}
-use Rattle.term_table.specs.declared.terms.Letter.{Letter}
-use Rattle.term_table.specs.declared.terms.Letter.TheVariants as letters
+use Rattle.term_table.specs.declared.terms.DataType.{DataType}
+use Rattle.term_table.specs.declared.terms.DataType.TheVariants as data_types
 use Rattle.term_table.specs.declared.terms.Term.{Term}
 use Rattle.inv_terms.specs.declared.values.Value.{Value}
 use Rattle.inv_terms.specs.declared.values.Value.TheVariants as values
@@ -22,7 +22,7 @@ use Rattle.bind_rows.specs.declared.rows.Form.TheVariants as forms
 use Rattle.bind_rows.specs.declared.rows.Content.TheVariants as contents
 use Rattle.bind_rows.specs.declared.rows.Written.{Written}
 use Rattle.bind_rows.specs.declared.rows.Written.TheVariants as written
-use Rattle.bind_rows.specs.Added.{is_typed, letter_of_form}
+use Rattle.bind_rows.specs.Added.{is_typed, data_type_of_form}
 use Rattle.bind_meaning.specs.Values.{Image, images, subject_code, form_for}
 
 -- the slot, where rows of this context have one
@@ -60,7 +60,7 @@ formed forms.Model es c value = spelled value
 formed forms.PlainDate es c value = plain_date value
 formed forms.DueDateTypeCode es c value = written_among images (spelled value)
 formed forms.CodedNote es c value = coded_note (value_in es subject_code c) (spelled value)
-formed (forms.Typed letter) es c value = spelled value
+formed (forms.Typed data_type) es c value = spelled value
 formed forms.TypedPlainDate es c value = plain_date value
 
 -- ---- when it is written
@@ -92,36 +92,36 @@ if_due written.IfIban es term c text = if_so (is_iban text) text
 if_due written.IfNotIban es term c text = if_so (not (is_iban text)) text
 if_due written.IfScheme es term c text = if_so (is_some (value_in es (scheme_of term) c)) text
 if_due written.IfNoScheme es term c text = if_so (is_none (value_in es (scheme_of term) c)) text
-if_due (written.OrFiller filler) es term c text = Some text
+if_due (written.OrPlaceholder placeholder) es term c text = Some text
 if_due written.VatTotal es term c text = Some text
 if_due written.AccountingVatTotal es term c text = Some text
 
--- the filler, where the term beside it stands
+-- the placeholder, where the term beside it stands
 abbrev pub filled : Written → List Entry → Context → Option (List ℕ)
-filled (written.OrFiller filler) es c = if_so (is_some (value_in es filler.beside c)) filler.text
+filled (written.OrPlaceholder placeholder) es c = if_so (is_some (value_in es placeholder.beside c)) placeholder.text
 filled _ es c = None
 
 -- The context has an occurrence of each group of the row's.
 abbrev pub has_slots : Row → Context → Bool
 has_slots row c = (is_none row.outer || is_some c.outer) && (is_none row.inner || is_some c.inner)
 
-abbrev pub is_of_type : Letter → Value → Bool
-is_of_type letters.T (values.Text text) = true
-is_of_type letters.I (values.Identifier text) = true
-is_of_type letters.C (values.Code text) = true
-is_of_type letters.A (values.Amount number) = true
-is_of_type letters.Q (values.Quantity number) = true
-is_of_type letters.P (values.Percent number) = true
-is_of_type letters.D (values.Date day) = true
-is_of_type letters.B (values.Base64 text) = true
+abbrev pub is_of_type : DataType → Value → Bool
+is_of_type data_types.T (values.Text text) = true
+is_of_type data_types.I (values.Identifier text) = true
+is_of_type data_types.C (values.Code text) = true
+is_of_type data_types.A (values.Amount number) = true
+is_of_type data_types.Q (values.Quantity number) = true
+is_of_type data_types.P (values.Percent number) = true
+is_of_type data_types.D (values.Date day) = true
+is_of_type data_types.B (values.Base64 text) = true
 is_of_type _ _ = false
 
 -- the value, where it has this type
-abbrev pub of_type : Letter → Value → Option Value
-of_type letter value = elim (is_of_type letter value) [ true ↦ Some value | false ↦ None ]
+abbrev pub of_type : DataType → Value → Option Value
+of_type data_type value = elim (is_of_type data_type value) [ true ↦ Some value | false ↦ None ]
 
 abbrev pub of_form : Form → Value → Option Value
-of_form form value = elim (letter_of_form form) [ None ↦ Some value | Some letter ↦ of_type letter value ]
+of_form form value = elim (data_type_of_form form) [ None ↦ Some value | Some data_type ↦ of_type data_type value ]
 
 -- the value that the row writes: an added row writes none in a context without its groups, nor one of another type
 abbrev pub value_for : Row → List Entry → Term → Context → Option Value
@@ -140,6 +140,6 @@ term_text row es term c = elim (value_for row es term c) [
 abbrev pub row_text : Row → List Entry → Context → Option (List ℕ)
 row_text row es c = elim row.content [ (contents.Term term) ↦ term_text row es term (context_for row c) | (contents.Constant text) ↦ None ]
 
--- The row writes what the invoice gives it: its term's value, or its filler where the term beside it stands.
+-- The row writes what the invoice gives it: its term's value, or its placeholder where the term beside it stands.
 abbrev pub writes_entry : Row → List Entry → Context → Bool
 writes_entry row es c = is_some (row_text row es c)

@@ -2,8 +2,8 @@
 ghost use Rattle.std.specs.Prelude.{◌≡◌};
 ghost use Rattle.bind_meaning.specs.Values as spec;
 
-use bind_rows::{Form, letter_of_form};
-use term_table::{Letter, Term, letter_of};
+use bind_rows::{Form, data_type_of_form};
+use term_table::{DataType, Term, data_type_of};
 
 /// The form in which a row writes the values of a term: its own, or that of the model where its own isn't one for the
 /// term.
@@ -14,12 +14,12 @@ pub fn form_for(form: Form, term: Term) -> Form
 }
 
 /// The type of the values of a term that stands in this form: that of the form, if it says one itself.
-pub fn type_of(form: Form, term: Term) -> Option<Letter>
+pub fn type_of(form: Form, term: Term) -> Option<DataType>
     ensures { result ≡ spec.type_of form term }
 {
-    match letter_of_form(form) {
-        Some(letter) => Some(letter),
-        None => letter_of(term),
+    match data_type_of_form(form) {
+        Some(data_type) => Some(data_type),
+        None => data_type_of(term),
     }
 }
 
@@ -30,10 +30,10 @@ fn suits(form: Form, term: Term) -> bool
 {
     match form {
         Form::Model => true,
-        Form::PlainDate => matches!(letter_of(term), Some(Letter::D)),
+        Form::PlainDate => matches!(data_type_of(term), Some(DataType::D)),
         Form::DueDateTypeCode => is_term(8, term),
         Form::CodedNote => is_term(22, term),
-        Form::Typed(letter) => term.is_extension() && !matches!(letter, Letter::B),
+        Form::Typed(data_type) => term.is_extension() && !matches!(data_type, DataType::B),
         Form::TypedPlainDate => term.is_extension(),
     }
 }

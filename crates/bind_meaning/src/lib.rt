@@ -8,7 +8,7 @@ mod forms;
 mod picked;
 mod tables;
 
-pub use bind_rows::Which;
+pub use bind_rows::DocumentType;
 pub use elements::{is_blank_at, is_element};
 pub use fault::{BindFault, BindKind};
 pub use forms::{form_for, type_of};

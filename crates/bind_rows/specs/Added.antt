@@ -4,8 +4,8 @@ use Rattle.std.specs.Prelude.{◌==◌, Bool, true, false, not, ◌&&◌, List, 
 use Rattle.std.specs.List.{list_all}
 use Rattle.term_table.specs.declared.groups.Group.{Group}
 use Rattle.term_table.specs.declared.groups.Group.TheVariants as groups
-use Rattle.term_table.specs.declared.terms.Letter.{Letter}
-use Rattle.term_table.specs.declared.terms.Letter.TheVariants as letters
+use Rattle.term_table.specs.declared.terms.DataType.{DataType}
+use Rattle.term_table.specs.declared.terms.DataType.TheVariants as data_types
 use Rattle.term_table.specs.SemanticModel.{is_extension}
 use Rattle.term_table.specs.Rows.{is_base64}
 use Rattle.bind_rows.specs.declared.names.Leaf.{Leaf}
@@ -25,21 +25,21 @@ use Rattle.bind_rows.specs.declared.rows.Written.TheVariants as written
 use Rattle.bind_rows.specs.Same.{same_group, choose}
 
 -- the type that the form itself says: that of a term which the semantic model doesn't have
-abbrev pub letter_of_form : Form → Option Letter
-letter_of_form (forms.Typed letter) = Some letter
-letter_of_form forms.TypedPlainDate = Some letters.D
-letter_of_form forms.Model = None
-letter_of_form forms.PlainDate = None
-letter_of_form forms.DueDateTypeCode = None
-letter_of_form forms.CodedNote = None
+abbrev pub data_type_of_form : Form → Option DataType
+data_type_of_form (forms.Typed data_type) = Some data_type
+data_type_of_form forms.TypedPlainDate = Some data_types.D
+data_type_of_form forms.Model = None
+data_type_of_form forms.PlainDate = None
+data_type_of_form forms.DueDateTypeCode = None
+data_type_of_form forms.CodedNote = None
 
 abbrev pub is_typed : Form → Bool
-is_typed form = is_some (letter_of_form form)
+is_typed form = is_some (data_type_of_form form)
 
 -- The type is one that an added term may have.
-abbrev pub is_added_type : Option Letter → Bool
+abbrev pub is_added_type : Option DataType → Bool
 is_added_type None = false
-is_added_type (Some letter) = not (is_base64 letter)
+is_added_type (Some data_type) = not (is_base64 data_type)
 
 abbrev pub adds_term : Content → Bool
 adds_term (contents.Term term) = is_extension term
@@ -76,7 +76,7 @@ abbrev pub is_unmarked : Row → Bool
 is_unmarked row =
     is_element row.leaf
     && (list_all is_unguarded row.path
-    && (is_once row.repeats && (is_always row.written && (is_unjudged row.check && is_added_type (letter_of_form row.form)))))
+    && (is_once row.repeats && (is_always row.written && (is_unjudged row.check && is_added_type (data_type_of_form row.form)))))
 
 -- A user added the row.
 abbrev pub is_added : Row → Bool

@@ -4,15 +4,15 @@ ghost use Rattle.bind_rows.specs.Added as spec;
 
 use crate::names::Leaf;
 use crate::rows::{Check, Content, Form, Repeats, Row, Step, Written};
-use term_table::{Group, Letter};
+use term_table::{DataType, Group};
 
 /// The type that a form itself says. None, where it is that of the term.
-pub fn letter_of_form(form: Form) -> Option<Letter>
-    ensures { result ≡ spec.letter_of_form form }
+pub fn data_type_of_form(form: Form) -> Option<DataType>
+    ensures { result ≡ spec.data_type_of_form form }
 {
     match form {
-        Form::Typed(letter) => Some(letter),
-        Form::TypedPlainDate => Some(Letter::D),
+        Form::Typed(data_type) => Some(data_type),
+        Form::TypedPlainDate => Some(DataType::D),
         Form::Model => None,
         Form::PlainDate => None,
         Form::DueDateTypeCode => None,
@@ -24,15 +24,15 @@ pub fn letter_of_form(form: Form) -> Option<Letter>
 pub fn is_typed(form: Form) -> bool
     ensures { result ≡ spec.is_typed form }
 {
-    letter_of_form(form).is_some()
+    data_type_of_form(form).is_some()
 }
 
-fn is_added_type(letter: Option<Letter>) -> bool
-    ensures { result ≡ spec.is_added_type letter }
+fn is_added_type(data_type: Option<DataType>) -> bool
+    ensures { result ≡ spec.is_added_type data_type }
 {
-    match letter {
+    match data_type {
         None => false,
-        Some(Letter::B) => false,
+        Some(DataType::B) => false,
         Some(_) => true,
     }
 }
@@ -120,7 +120,7 @@ fn is_unmarked(row: &Row) -> bool
         && is_once(row.repeats)
         && is_always(&row.written)
         && is_unjudged(row.check)
-        && is_added_type(letter_of_form(row.form))
+        && is_added_type(data_type_of_form(row.form))
 }
 
 /// Whether a user added the row: it has one of the terms EXT-1 to EXT-99 in the invoice or in a line, a type, and no

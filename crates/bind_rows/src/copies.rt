@@ -2,7 +2,7 @@ ghost use Rattle.std.specs.Prelude.{◌≡◌, IfOk};
 
 use crate::guards::{Guard, Place, Test};
 use crate::names::{ElementName, Leaf};
-use crate::rows::{Content, Filler, Row, Step, Written};
+use crate::rows::{Content, Placeholder, Row, Step, Written};
 use crate::words::Word;
 use inv_base::{Many, Txt};
 use std::alloc::{AllocError, Global};
@@ -104,9 +104,9 @@ impl Copied for Content {
     }
 }
 
-impl Copied for Filler {
-    fn copied(&self, alloc: Global) -> Result<Filler, AllocError> {
-        Ok(Filler {
+impl Copied for Placeholder {
+    fn copied(&self, alloc: Global) -> Result<Placeholder, AllocError> {
+        Ok(Placeholder {
             text: self.text.copied(alloc)?,
             beside: self.beside,
         })
@@ -122,7 +122,9 @@ impl Copied for Written {
             Written::IfNotIban => Ok(Written::IfNotIban),
             Written::IfScheme => Ok(Written::IfScheme),
             Written::IfNoScheme => Ok(Written::IfNoScheme),
-            Written::OrFiller(filler) => Ok(Written::OrFiller(filler.copied(alloc)?)),
+            Written::OrPlaceholder(placeholder) => Ok(Written::OrPlaceholder(placeholder.copied(
+                alloc,
+            )?)),
             Written::VatTotal => Ok(Written::VatTotal),
             Written::AccountingVatTotal => Ok(Written::AccountingVatTotal),
         }

@@ -13,13 +13,13 @@ mod same;
 mod tables;
 mod words;
 
-pub use added::{is_added, is_typed, letter_of_form};
+pub use added::{data_type_of_form, is_added, is_typed};
 pub use copies::Copied;
 pub use guards::{Guard, Place, Test};
 pub use inv_base::Many;
 pub use names::{ElementName, Leaf, Namespace};
 pub use namespaces::{declared_by, prefix_of, uri_of};
-pub use rows::{Check, Content, Filler, Form, Repeats, Row, Step, Written};
+pub use rows::{Check, Content, Form, Placeholder, Repeats, Row, Step, Written};
 pub use same::{Same, are_same, is_same_or_none};
-pub use tables::Which;
+pub use tables::DocumentType;
 pub use words::Word;

@@ -4,7 +4,7 @@ ghost use Rattle.bind_rows.specs.Contents.{has_term};
 use crate::guards::Guard;
 use crate::names::{ElementName, Leaf};
 use inv_base::{Many, Txt};
-use term_table::{Group, Letter, Term};
+use term_table::{DataType, Group, Term};
 
 /// An element on the path of a row.
 pub struct Step {
@@ -55,7 +55,7 @@ pub enum Form {
     CodedNote,
     /// As the semantic model spells a value of this type. The term is one that a user added: the model has no type for
     /// it.
-    Typed(Letter),
+    Typed(DataType),
     /// A date without dashes, of a term that a user added.
     TypedPlainDate,
 }
@@ -72,9 +72,9 @@ pub enum Repeats {
 
 /// What is written where an element would have to stand and holds no entry of its own.
 #[derive(Drop)]
-pub struct Filler {
+pub struct Placeholder {
     pub text: Txt,
-    /// The term beside it in its element: the filler is written where that term stands, and isn't read as a value
+    /// The term beside it in its element: the placeholder is written where that term stands, and isn't read as a value
     /// there.
     pub beside: Term,
 }
@@ -90,8 +90,8 @@ pub enum Written {
     /// Where the scheme of the identifier stands, part 1 of its term.
     IfScheme,
     IfNoScheme,
-    /// Always, and the filler where the term is absent.
-    OrFiller(Filler),
+    /// Always, and the placeholder where the term is absent.
+    OrPlaceholder(Placeholder),
     /// An invoice's VAT total (BT-110), told from the other by its currency, which is that of the invoice.
     VatTotal,
     /// The VAT total in the accounting currency (BT-111).

@@ -1,6 +1,6 @@
 /// The three binding tables.
 #[derive(Clone, Copy, PartialEq, Eq)]
-pub enum Which {
+pub enum DocumentType {
     /// UBL 2.1 Invoice
     Invoice,
     /// UBL 2.1 CreditNote

@@ -8,7 +8,7 @@ use Rattle.bind_rows.specs.declared.rows.Check.{Check}
 use Rattle.bind_rows.specs.declared.rows.Check.TheVariants as checks
 use Rattle.bind_meaning.specs.declared.fault.BindFault.{BindFault}
 use Rattle.bind_meaning.specs.declared.fault.BindKind.TheVariants as kinds
-use Rattle.bind_rows.specs.declared.tables.Which.{Which}
+use Rattle.bind_rows.specs.declared.tables.DocumentType.{DocumentType}
 use Rattle.bind_meaning.specs.Kept.{all_kept}
 use Rattle.bind_meaning.specs.Picks.{Numbered, numbered, rows_where, all_picked, term_in}
 use Rattle.bind_meaning.specs.Terms.{Read, in_order}
@@ -29,15 +29,16 @@ pub same-indicators : (nodes : List Node) (rows : List Row)
 same-indicators nodes rows = λ i. all_kept
     (in_order nodes (all_picked nodes (filter (λ (r : Numbered). same-test r.row.content r.row.check i) (numbered 1 rows))))
 
-pub known-ok : (o : Option Which) (table : Which) → known o ≡ Ok table → o ≡ Some table
+pub known-ok : (o : Option DocumentType) (table : DocumentType) → known o ≡ Ok table → o ≡ Some table
 known-ok None table e = cc
 known-ok (Some x) table e = let same : x ≡ table = cc in ap Some same
 
-pub known-err : (o : Option Which) (fault : BindFault) → known o ≡ Err fault → (o ≡ None) × (◌≡◌ {A = Result Read BindFault} (Err unknown_root) (Err fault))
+pub known-err : (o : Option DocumentType) (fault : BindFault) → known o ≡ Err fault → (o ≡ None)
+    × (◌≡◌ {A = Result Read BindFault} (Err unknown_root) (Err fault))
 known-err None fault e = let same : unknown_root ≡ fault = cc in (refl, ap Err same)
 known-err (Some x) fault e = cc
 
-pub known-same : (o : Option Which) (fault : BindFault) → known o ≡ Err fault → (o ≡ None) × (unknown_root ≡ fault)
+pub known-same : (o : Option DocumentType) (fault : BindFault) → known o ≡ Err fault → (o ≡ None) × (unknown_root ≡ fault)
 known-same None fault e = let same : unknown_root ≡ fault = cc in (refl, same)
 known-same (Some x) fault e = cc
 

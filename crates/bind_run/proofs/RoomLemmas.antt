@@ -10,17 +10,17 @@ use Rattle.std.proofs.lemmas.List.{length-map}
 use Rattle.std.proofs.lemmas.List.Elements.{All-nil, All-cons}
 use Rattle.std.proofs.lemmas.Option.{same_Some}
 use Rattle.term_table.specs.declared.groups.Group.TheVariants as groups
-use Rattle.term_table.specs.declared.terms.Letter.{Letter}
-use Rattle.term_table.specs.declared.terms.Letter.TheVariants as letters
+use Rattle.term_table.specs.declared.terms.DataType.{DataType}
+use Rattle.term_table.specs.declared.terms.DataType.TheVariants as data_types
 use Rattle.term_table.specs.Rows.{is_base64}
 use Rattle.term_table.specs.SemanticModel.{is_extension as is_extension_term}
 use Rattle.bind_rows.specs.declared.names.ElementName.{ElementName}
 use Rattle.bind_rows.specs.declared.names.Namespace.{Namespace}
 use Rattle.bind_rows.specs.declared.rows.Row.{Row}
 use Rattle.bind_rows.specs.declared.rows.Step.{Step}
-use Rattle.bind_rows.specs.declared.tables.Which.{Which}
-use Rattle.bind_rows.specs.declared.tables.Which.TheVariants as which
-use Rattle.bind_rows.specs.Added.{letter_of_form, is_added_type, is_root_or_line, is_unguarded, is_unmarked, is_added, is_built, built}
+use Rattle.bind_rows.specs.declared.tables.DocumentType.{DocumentType}
+use Rattle.bind_rows.specs.declared.tables.DocumentType.TheVariants as document_type
+use Rattle.bind_rows.specs.Added.{data_type_of_form, is_added_type, is_root_or_line, is_unguarded, is_unmarked, is_added, is_built, built}
 use Rattle.bind_rows.specs.Same.{same_name, choose}
 use Rattle.extension_files.specs.declared.terms.ExtPlace.{ExtPlace}
 use Rattle.extension_files.specs.declared.terms.ExtPlace.TheVariants as places
@@ -44,52 +44,53 @@ and-so a b h k = ap (λ x. x && b) h ∙ k
 -- ---- a term of a file, as a table's syntax writes it
 
 -- the namespaces of a table's paths
-abbrev pub spaces_for : Which → List Namespace
-spaces_for which.Invoice = ubl_spaces
-spaces_for which.CreditNote = ubl_spaces
-spaces_for which.Cii = cii_spaces
+abbrev pub spaces_for : DocumentType → List Namespace
+spaces_for document_type.Invoice = ubl_spaces
+spaces_for document_type.CreditNote = ubl_spaces
+spaces_for document_type.Cii = cii_spaces
 
-pub record IsOfFile (table : Which) (a : AddedTerm) : Type 0 where
+pub record IsOfFile (table : DocumentType) (a : AddedTerm) : Type 0 where
   pub least : 1 ≤ a.number
   pub most : a.number ≤ 99
   pub place : ExtPlace
   pub outer : a.outer ≡ outer_of place
   pub inner : a.inner ≡ None
-  pub letter : not (is_base64 a.letter) ≡ true
+  pub data_type : not (is_base64 a.data_type) ≡ true
   pub some : 1 ≤ length a.names
   pub few : length a.names ≤ 20
   pub names : list_all (is_name (spaces_for table)) a.names ≡ true
 
 -- Their numbers rise from above one.
-abbrev pub Rising : Which → ℕ → List AddedTerm → Type 0
+abbrev pub Rising : DocumentType → ℕ → List AddedTerm → Type 0
 Rising table before [] = Unit {0}
 Rising table before (a ∷ terms) = (before < a.number) × (IsOfFile table a × Rising table a.number terms)
 
-rising-lower : (table : Which) (low high : ℕ) (terms : List AddedTerm) → low ≤ high → Rising table high terms → Rising table low terms
+rising-lower : (table : DocumentType) (low high : ℕ) (terms : List AddedTerm) → low ≤ high → Rising table high terms → Rising table low terms
 rising-lower table low high [] l r = tt
 rising-lower table low high (a ∷ terms) l r = (omega (arith, l, r.0), r.1)
 
-path-there : (table : Which) (paths : Paths) → are_paths paths ≡ true → is_path_or_none (spaces_for table) (path_for table paths) ≡ true
+path-there : (table : DocumentType) (paths : Paths) → are_paths paths ≡ true → is_path_or_none (spaces_for table) (path_for table paths) ≡ true
 path-there table paths h =
     let u = both (is_path_or_none ubl_spaces paths.ubl) _ h in
     let n = both (is_path_or_none ubl_spaces paths.credit_note) _ u.1 in
     by table u.0 n.0 (both (is_path_or_none cii_spaces paths.cii) (has_path paths) n.1).0
   where
-    by : (table : Which) → is_path_or_none ubl_spaces paths.ubl ≡ true → is_path_or_none ubl_spaces paths.credit_note ≡ true →
+    by : (table : DocumentType) → is_path_or_none ubl_spaces paths.ubl ≡ true → is_path_or_none ubl_spaces paths.credit_note ≡ true →
         is_path_or_none cii_spaces paths.cii ≡ true
         → is_path_or_none (spaces_for table) (path_for table paths) ≡ true
-    by which.Invoice u n c = u
-    by which.CreditNote u n c = n
-    by which.Cii u n c = c
+    by document_type.Invoice u n c = u
+    by document_type.CreditNote u n c = n
+    by document_type.Cii u n c = c
 
 abbrev made : ExtTerm → List ElementName → AddedTerm
-made term names = record { number = term.number; outer = outer_of term.place; inner = None; letter = term.letter; names = names }
+made term names = record { number = term.number; outer = outer_of term.place; inner = None; data_type = term.data_type; names = names }
 
-rising-more : (table : Which) (before : ℕ) (term : ExtTerm) (o : Option (List ElementName)) (terms : List AddedTerm) → before < term.number → term.number ≤ 99
-    → not (is_base64 term.letter) ≡ true → is_path_or_none (spaces_for table) o ≡ true → Rising table term.number terms →
+rising-more : (table : DocumentType) (before : ℕ) (term : ExtTerm) (o : Option (List ElementName)) (terms : List AddedTerm) → before < term.number
+    → term.number ≤ 99
+    → not (is_base64 term.data_type) ≡ true → is_path_or_none (spaces_for table) o ≡ true → Rising table term.number terms →
     Rising table before (cons_option (option_map (made term) o) terms)
-rising-more table before term None terms low high letter path r = rising-lower table before term.number terms (omega (arith, low)) r
-rising-more table before term (Some names) terms low high letter path r =
+rising-more table before term None terms low high data_type path r = rising-lower table before term.number terms (omega (arith, low)) r
+rising-more table before term (Some names) terms low high data_type path r =
     let s = both (nat_le 1 (length names)) _ path in
     let f = both (nat_le (length names) 20) (list_all (is_name (spaces_for table)) names) s.1 in
     let fine : IsOfFile table (made term names) = record {
@@ -98,27 +99,28 @@ rising-more table before term (Some names) terms low high letter path r =
       place = term.place;
       outer = refl;
       inner = refl;
-      letter = letter;
+      data_type = data_type;
       some = leb-true 1 (length names) s.0;
       few = leb-true (length names) 20 f.0;
       names = f.1;
     } in
     (low, (fine, r))
 
-terms-rise : (table : Which) (before : ℕ) (e : List ExtTerm) → are_terms before e ≡ true → Rising table before (terms_for table e)
+terms-rise : (table : DocumentType) (before : ℕ) (e : List ExtTerm) → are_terms before e ≡ true → Rising table before (terms_for table e)
 terms-rise table before [] h = tt
 terms-rise table before (term ∷ e) h =
     let low = both (nat_lt before term.number) _ h in
     let high = both (nat_le term.number 99) _ low.1 in
-    let letter = both (not (is_base64 term.letter)) _ high.1 in
-    let paths = both (are_paths term.paths) (are_terms term.number e) letter.1 in
-    rising-more table before term (path_for table term.paths) (terms_for table e) (ltb-true before term.number low.0) (leb-true term.number 99 high.0) letter.0
+    let data_type = both (not (is_base64 term.data_type)) _ high.1 in
+    let paths = both (are_paths term.paths) (are_terms term.number e) data_type.1 in
+    rising-more table before term (path_for table term.paths) (terms_for table e) (ltb-true before term.number low.0) (leb-true term.number 99 high.0)
+        data_type.0
     (path-there table term.paths paths.0) (terms-rise table term.number e paths.1)
 
-pub rising : (table : Which) (e : List ExtTerm) → is_extension e ≡ true → Rising table 0 (terms_for table e)
+pub rising : (table : DocumentType) (e : List ExtTerm) → is_extension e ≡ true → Rising table 0 (terms_for table e)
 rising table e h = terms-rise table 0 e h
 
-few-terms : (table : Which) (before : ℕ) (terms : List AddedTerm) → before ≤ 99 → Rising table before terms → before + length terms ≤ 99
+few-terms : (table : DocumentType) (before : ℕ) (terms : List AddedTerm) → before ≤ 99 → Rising table before terms → before + length terms ≤ 99
 few-terms table before [] l r = omega (arith, l)
 few-terms table before (a ∷ terms) l r =
     let low = r.0 in
@@ -126,22 +128,22 @@ few-terms table before (a ∷ terms) l r =
     let rest = few-terms table a.number terms most r.1.1 in
     omega (arith, low, rest)
 
-pub at-most-99 : (table : Which) (terms : List AddedTerm) → Rising table 0 terms → length terms ≤ 99
+pub at-most-99 : (table : DocumentType) (terms : List AddedTerm) → Rising table 0 terms → length terms ≤ 99
 at-most-99 table terms r = let z = few-terms table 0 terms (omega arith) r in omega (arith, z)
 
 -- ---- its row is an added one
 
-letter-kept : (table : Which) (letter : Letter) → letter_of_form (form_of_type table letter) ≡ Some letter
-letter-kept which.Invoice letter = refl
-letter-kept which.CreditNote letter = refl
-letter-kept which.Cii letters.D = refl
-letter-kept which.Cii letters.A = refl
-letter-kept which.Cii letters.B = refl
-letter-kept which.Cii letters.C = refl
-letter-kept which.Cii letters.I = refl
-letter-kept which.Cii letters.P = refl
-letter-kept which.Cii letters.Q = refl
-letter-kept which.Cii letters.T = refl
+data_type-kept : (table : DocumentType) (data_type : DataType) → data_type_of_form (form_of_type table data_type) ≡ Some data_type
+data_type-kept document_type.Invoice data_type = refl
+data_type-kept document_type.CreditNote data_type = refl
+data_type-kept document_type.Cii data_types.D = refl
+data_type-kept document_type.Cii data_types.A = refl
+data_type-kept document_type.Cii data_types.B = refl
+data_type-kept document_type.Cii data_types.C = refl
+data_type-kept document_type.Cii data_types.I = refl
+data_type-kept document_type.Cii data_types.P = refl
+data_type-kept document_type.Cii data_types.Q = refl
+data_type-kept document_type.Cii data_types.T = refl
 
 free-step : (there : Option Step) (n : ElementName) (top : ℕ) → is_unguarded (step_for there n top) ≡ true
 free-step (Some s) n top = refl
@@ -161,23 +163,24 @@ placed : (place : ExtPlace) → is_root_or_line (outer_of place) None ≡ true
 placed places.Root = refl
 placed places.Line = refl
 
-pub stands-there : (table : Which) (a : AddedTerm) → IsOfFile table a → is_root_or_line a.outer a.inner ≡ true
+pub stands-there : (table : DocumentType) (a : AddedTerm) → IsOfFile table a → is_root_or_line a.outer a.inner ≡ true
 stands-there table a file = (λ i. is_root_or_line (file.outer i) (file.inner i)) ∙ placed file.place
 
-pub added-is : (table : Which) (rows : List Row) (a : AddedTerm) → IsOfFile table a → is_added (added_row table rows a) ≡ true
+pub added-is : (table : DocumentType) (rows : List Row) (a : AddedTerm) → IsOfFile table a → is_added (added_row table rows a) ≡ true
 added-is table rows a file =
     ap (λ b. choose b (λ _. is_root_or_line a.outer a.inner && is_unmarked (added_row table rows a)) (λ _. false))
     (extension-term a.number file.least file.most)
     ∙ and-so (is_root_or_line a.outer a.inner) (is_unmarked (added_row table rows a)) (stands-there table a file)
-    (and-so (list_all is_unguarded (path_of rows (greatest rows) [] (names_for (built rows) a))) (is_added_type (letter_of_form (form_of_type table a.letter)))
-    (free-path rows (greatest rows) [] (names_for (built rows) a)) (ap is_added_type (letter-kept table a.letter) ∙ file.letter))
+    (and-so (list_all is_unguarded (path_of rows (greatest rows) [] (names_for (built rows) a))) (is_added_type (data_type_of_form (form_of_type table
+        a.data_type)))
+    (free-path rows (greatest rows) [] (names_for (built rows) a)) (ap is_added_type (data_type-kept table a.data_type) ∙ file.data_type))
 
 -- so the built-in part stays
 built-by : (rows : List Row) (row : Row) → is_added row ≡ true → built (rows ++ row ∷ []) ≡ built rows
 built-by [] row h = ap (λ b. if not b then row ∷ [] else []) h
 built-by (r ∷ rows) row h = ap (λ l. if is_built r then r ∷ l else l) (built-by rows row h)
 
-pub built-more : (table : Which) (rows : List Row) (a : AddedTerm) → IsOfFile table a → built (rows ++ added_row table rows a ∷ []) ≡ built rows
+pub built-more : (table : DocumentType) (rows : List Row) (a : AddedTerm) → IsOfFile table a → built (rows ++ added_row table rows a ∷ []) ≡ built rows
 built-more table rows a file = built-by rows (added_row table rows a) (added-is table rows a file)
 
 -- ---- its names
@@ -190,7 +193,7 @@ length-both : {X : Type 0} (xs ys : List X) → length (xs ++ ys) ≡ length xs 
 length-both [] ys = omega arith
 length-both (x ∷ xs) ys = let e = length-both xs ys in omega (arith, e)
 
-pub few-names : (table : Which) (own : List Row) (a : AddedTerm) → AreShort own → IsOfFile table a → (1 ≤ length (names_for own a)) ×
+pub few-names : (table : DocumentType) (own : List Row) (a : AddedTerm) → AreShort own → IsOfFile table a → (1 ≤ length (names_for own a)) ×
     (length (names_for own a) ≤ 23)
 few-names table own a short file =
     let path = context_path own a.outer a.inner in
@@ -272,7 +275,7 @@ greatest-more : (m : ℕ) (rows : List Row) (row : Row) → fold greatest_on m (
 greatest-more m [] row = refl
 greatest-more m (r ∷ rows) row = greatest-more (greatest_on m r) rows row
 
-pub greatest-behind : (table : Which) (rows : List Row) (a : AddedTerm) →
+pub greatest-behind : (table : DocumentType) (rows : List Row) (a : AddedTerm) →
     greatest (rows ++ added_row table rows a ∷ []) ≤ greatest rows + length (names_for (built rows) a)
 greatest-behind table rows a =
     let e = greatest-more 0 rows (added_row table rows a) in
@@ -284,7 +287,7 @@ greatest-behind table rows a =
 one-more : (rows : List Row) (row : Row) → length (rows ++ row ∷ []) ≡ length rows + 1
 one-more rows row = length-both rows (row ∷ [])
 
-pub rooms : (table : Which) (own : List Row) → AreShort own → (terms : List AddedTerm) (before : ℕ) → Rising table before terms → (rows : List Row) →
+pub rooms : (table : DocumentType) (own : List Row) → AreShort own → (terms : List AddedTerm) (before : ℕ) → Rising table before terms → (rows : List Row) →
     built rows ≡ own
     → length rows + length terms < 2 ^ 31 → greatest rows + 23 * length terms < 2 ^ 31 → HasRooms table rows terms
 rooms table own short [] before r rows e few low = tt
@@ -318,10 +321,10 @@ built-cii : built cii_rows ≡ cii_rows
 unfolding cii_listing cii_rows
 built-cii = refl
 
-pub own-each : (table : Which) → built (rows_of table) ≡ rows_of table
-own-each which.Invoice = built-invoice
-own-each which.CreditNote = built-credit_note
-own-each which.Cii = built-cii
+pub own-each : (table : DocumentType) → built (rows_of table) ≡ rows_of table
+own-each document_type.Invoice = built-invoice
+own-each document_type.CreditNote = built-credit_note
+own-each document_type.Cii = built-cii
 
 -- few rows, whose paths have elements with small numbers
 abbrev are_small : List Row → Bool
@@ -341,10 +344,10 @@ small-cii : are_small cii_rows ≡ true
 unfolding cii_listing cii_rows
 small-cii = refl
 
-small-each : (table : Which) → are_small (rows_of table) ≡ true
-small-each which.Invoice = small-invoice
-small-each which.CreditNote = small-credit_note
-small-each which.Cii = small-cii
+small-each : (table : DocumentType) → are_small (rows_of table) ≡ true
+small-each document_type.Invoice = small-invoice
+small-each document_type.CreditNote = small-credit_note
+small-each document_type.Cii = small-cii
 
 abbrev are_short : List Row → Bool
 are_short own = nat_le (length (context_path own None None)) 3 && nat_le (length (context_path own (Some groups.InvoiceLine) None)) 3
@@ -367,10 +370,10 @@ by-short own h places.Line =
     leb-true (length (context_path own (Some groups.InvoiceLine) None)) 3
     (both (nat_le (length (context_path own None None)) 3) (nat_le (length (context_path own (Some groups.InvoiceLine) None)) 3) h).1
 
-pub short-each : (table : Which) → AreShort (rows_of table)
-short-each which.Invoice = by-short invoice_rows short-invoice
-short-each which.CreditNote = by-short credit_note_rows short-credit_note
-short-each which.Cii = by-short cii_rows short-cii
+pub short-each : (table : DocumentType) → AreShort (rows_of table)
+short-each document_type.Invoice = by-short invoice_rows short-invoice
+short-each document_type.CreditNote = by-short credit_note_rows short-credit_note
+short-each document_type.Cii = by-short cii_rows short-cii
 
 all-by : {X : Type 0} (P : X → Type 0) (p : X → Bool) → ((x : X) → p x ≡ true → P x) → (xs : List X) → list_all p xs ≡ true → All P xs
 all-by P p f [] h = All-nil P
@@ -379,14 +382,14 @@ all-by P p f (x ∷ xs) h = let w = both (p x) (list_all p xs) h in All-cons P x
 abbrev is_small_row : Row → Bool
 is_small_row row = nat_lt 0 (length row.path) && list_all (λ (s : Step). nat_lt s.number 1000) row.path
 
-rows-small : (table : Which) → list_all is_small_row (rows_of table) ≡ true
+rows-small : (table : DocumentType) → list_all is_small_row (rows_of table) ≡ true
 rows-small table = (both (nat_le (greatest (rows_of table)) 1000) _ (both (nat_le (length (rows_of table)) 1000) _ (small-each table)).1).1
 
-pub steps-each : (table : Which) → All HasSteps (rows_of table)
+pub steps-each : (table : DocumentType) → All HasSteps (rows_of table)
 steps-each table = all-by HasSteps is_small_row (λ row h. ltb-true 0 (length row.path) (both (nat_lt 0 (length row.path)) _ h).0) (rows_of table)
     (rows-small table)
 
-pub numbers-each : (table : Which) → All HasSmallNumbers (rows_of table)
+pub numbers-each : (table : DocumentType) → All HasSmallNumbers (rows_of table)
 numbers-each table = all-by HasSmallNumbers is_small_row (λ row h. numbers row (both (nat_lt 0 (length row.path)) _ h).1) (rows_of table) (rows-small table)
   where
     small : (s : Step) → nat_lt s.number 1000 ≡ true → s.number < 2 ^ 31
@@ -395,7 +398,7 @@ numbers-each table = all-by HasSmallNumbers is_small_row (λ row h. numbers row 
     numbers : (row : Row) → list_all (λ (s : Step). nat_lt s.number 1000) row.path ≡ true → HasSmallNumbers row
     numbers row h = all-by (λ (s : Step). s.number < 2 ^ 31) (λ (s : Step). nat_lt s.number 1000) small row.path h
 
-pub rooms-each : (table : Which) (e : List ExtTerm) → is_extension e ≡ true → HasRooms table (rows_of table) (terms_for table e)
+pub rooms-each : (table : DocumentType) (e : List ExtTerm) → is_extension e ≡ true → HasRooms table (rows_of table) (terms_for table e)
 rooms-each table e h =
     let r = rising table e h in
     let few = at-most-99 table (terms_for table e) r in

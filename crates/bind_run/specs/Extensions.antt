@@ -8,8 +8,8 @@ use Rattle.bind_rows.specs.declared.names.ElementName.{ElementName}
 use Rattle.bind_rows.specs.declared.rows.Content.{Content}
 use Rattle.bind_rows.specs.declared.rows.Content.TheVariants as contents
 use Rattle.bind_rows.specs.declared.rows.Row.{Row}
-use Rattle.bind_rows.specs.declared.tables.Which.{Which}
-use Rattle.bind_rows.specs.declared.tables.Which.TheVariants as which
+use Rattle.bind_rows.specs.declared.tables.DocumentType.{DocumentType}
+use Rattle.bind_rows.specs.declared.tables.DocumentType.TheVariants as document_type
 use Rattle.extension_files.specs.declared.terms.ExtPlace.{ExtPlace}
 use Rattle.extension_files.specs.declared.terms.ExtPlace.TheVariants as places
 use Rattle.extension_files.specs.declared.terms.ExtTerm.{ExtTerm}
@@ -31,36 +31,36 @@ abbrev pub outer_of : ExtPlace → Option Group
 outer_of places.Root = None
 outer_of places.Line = Some groups.InvoiceLine
 
-abbrev pub path_for : Which → Paths → Option (List ElementName)
-path_for which.Invoice paths = paths.ubl
-path_for which.CreditNote paths = paths.credit_note
-path_for which.Cii paths = paths.cii
+abbrev pub path_for : DocumentType → Paths → Option (List ElementName)
+path_for document_type.Invoice paths = paths.ubl
+path_for document_type.CreditNote paths = paths.credit_note
+path_for document_type.Cii paths = paths.cii
 
 abbrev pub added_with : ExtTerm → List ElementName → AddedTerm
-added_with term names = record { number = term.number; outer = outer_of term.place; inner = None; letter = term.letter; names = names }
+added_with term names = record { number = term.number; outer = outer_of term.place; inner = None; data_type = term.data_type; names = names }
 
 -- the term with its path there, if it has one
-abbrev pub added_of : Which → ExtTerm → Option AddedTerm
+abbrev pub added_of : DocumentType → ExtTerm → Option AddedTerm
 added_of table term = option_map (added_with term) (path_for table term.paths)
 
 abbrev pub in_front : Option AddedTerm → List AddedTerm → List AddedTerm
 in_front None added = added
 in_front (Some a) added = a ∷ added
 
-abbrev pub terms_for : Which → List ExtTerm → List AddedTerm
+abbrev pub terms_for : DocumentType → List ExtTerm → List AddedTerm
 terms_for table [] = []
 terms_for table (term ∷ terms) = in_front (added_of table term) (terms_for table terms)
 
 -- ---- the tables with them
 
 -- the rows of one of the three tables, and those of the terms behind them
-abbrev pub rows_for : List ExtTerm → Which → List Row
+abbrev pub rows_for : List ExtTerm → DocumentType → List Row
 rows_for terms table = extended table (rows_of table) (terms_for table terms)
 
 -- They are terms as a file gives them, and each of the three tables is well formed with them.
 pub record AreGood (terms : List ExtTerm) : Type 0 where
   pub fine : is_extension terms ≡ true
-  pub formed : (table : Which) → first_fault (rows_for terms table) ≡ Ok tt
+  pub formed : (table : DocumentType) → first_fault (rows_for terms table) ≡ Ok tt
 
 -- ---- the first table that isn't well formed
 
@@ -72,12 +72,12 @@ term_in (contents.Constant text) = None
 abbrev pub term_at : List Row → ℕ → Option Term
 term_at rows number = option_and_then (λ (row : Row). term_in row.content) (slice_get rows (number - 1))
 
-abbrev pub as_bad_row : Which → List Row → Result (Unit {0}) TableFault → Result (Unit {0}) BadRow
+abbrev pub as_bad_row : DocumentType → List Row → Result (Unit {0}) TableFault → Result (Unit {0}) BadRow
 as_bad_row table rows (Ok good) = Ok tt
 as_bad_row table rows (Err fault) = Err (record { table = table; kind = fault.kind; term = term_at rows fault.row })
 
 -- the first row at which something is wrong, in one table
-abbrev pub judged_in : Which → List Row → Result (Unit {0}) BadRow
+abbrev pub judged_in : DocumentType → List Row → Result (Unit {0}) BadRow
 judged_in table rows = as_bad_row table rows (first_fault rows)
 
 abbrev pub or_later : Result (Unit {0}) BadRow → Result (Unit {0}) BadRow → Result (Unit {0}) BadRow
@@ -85,10 +85,10 @@ or_later (Ok good) later = later
 or_later (Err bad) later = Err bad
 
 -- the first bad row of the first of these tables that has one, in the order UBL Invoice, UBL CreditNote, CII
-abbrev pub judged : (Which → List Row) → Result (Unit {0}) BadRow
+abbrev pub judged : (DocumentType → List Row) → Result (Unit {0}) BadRow
 judged rows =
-    or_later (judged_in which.Invoice (rows which.Invoice))
-    (or_later (judged_in which.CreditNote (rows which.CreditNote)) (judged_in which.Cii (rows which.Cii)))
+    or_later (judged_in document_type.Invoice (rows document_type.Invoice))
+    (or_later (judged_in document_type.CreditNote (rows document_type.CreditNote)) (judged_in document_type.Cii (rows document_type.Cii)))
 
 -- The fault is that of the tables' bad row.
 abbrev pub IsBadRow : ExtendFault → Result (Unit {0}) BadRow → Type 0

@@ -2,32 +2,32 @@
 use Rattle.std.specs.Prelude.{◌≡◌, ◌≢◌, ◌<◌, ℕ, All, List, [], Option, Some, None, Result, Ok, Err}
 use Rattle.inv_base.specs.Tree.{Node}
 use Rattle.code_lists.specs.CodeFiles.{Lists}
-use Rattle.inv_terms.specs.declared.lacks.Name.TheVariants as lacks
+use Rattle.inv_terms.specs.declared.violations.Name.TheVariants as violations
 use Rattle.extension_files.specs.declared.terms.ExtTerm.{ExtTerm}
 use Rattle.bind_meaning.specs.declared.fault.BindFault.{BindFault}
 use Rattle.bind_meaning.specs.declared.fault.BindKind.TheVariants as kinds
 use Rattle.bind_rows.specs.declared.rows.Row.{Row}
-use Rattle.bind_rows.specs.declared.tables.Which.{Which}
-use Rattle.bind_rows.specs.declared.tables.Which.TheVariants as which
+use Rattle.bind_rows.specs.declared.tables.DocumentType.{DocumentType}
+use Rattle.bind_rows.specs.declared.tables.DocumentType.TheVariants as document_type
 use Rattle.bind_table.specs.WellFormed.{first_fault}
 use Rattle.bind_meaning.specs.Tables.{rows_of}
 use Rattle.bind_meaning.specs.Terms.{Read, terms_of}
 use Rattle.bind_meaning.specs.Faults.{faults_in, passed_nodes}
-use Rattle.bind_run.specs.declared.faults.Faulted.{Faulted as FaultsFound}
+use Rattle.bind_run.specs.declared.faults.ReadingReport.{ReadingReport as FaultsFound}
 use Rattle.bind_run.specs.declared.reading.ReadInvoice.{ReadInvoice}
 use Rattle.bind_run.specs.declared.tables.KeptTables.{KeptTables}
 use Rattle.bind_run.specs.declared.tables.Tables.{Tables}
 use Rattle.bind_run.specs.declared.tables.Tables.TheVariants as three
 use Rattle.bind_run.specs.Extensions.{rows_for}
-use Rattle.bind_run.specs.Roots.{which_of, unknown_root}
+use Rattle.bind_run.specs.Roots.{document_type_of, unknown_root}
 
-abbrev pub by_root : (Which → List Row) → List Node → Lists → Option Which → Result Read BindFault
+abbrev pub by_root : (DocumentType → List Row) → List Node → Lists → Option DocumentType → Result Read BindFault
 by_root rows nodes lists None = Err unknown_root
 by_root rows nodes lists (Some table) = terms_of nodes (rows table) lists
 
 -- the invoice that a document is by three tables, with how many elements were passed over, or its first fault
-abbrev pub invoice_by : (Which → List Row) → List Node → Lists → Result Read BindFault
-invoice_by rows nodes lists = by_root rows nodes lists (which_of nodes)
+abbrev pub invoice_by : (DocumentType → List Row) → List Node → Lists → Result Read BindFault
+invoice_by rows nodes lists = by_root rows nodes lists (document_type_of nodes)
 
 -- the same by the tables of the standard
 abbrev pub invoice_of : List Node → Lists → Result Read BindFault
@@ -36,23 +36,23 @@ invoice_of nodes lists = invoice_by rows_of nodes lists
 -- ---- all faults
 
 -- all faults of a document by a table, and the elements that the table passes over
-pub record Faulted : Type 0 where
-  pub which : Which
+pub record ReadingReport : Type 0 where
+  pub document_type : DocumentType
   pub faults : List BindFault
   pub passed : List ℕ
 
-abbrev pub faults_by_root : (Which → List Row) → List Node → Lists → Option Which → Result Faulted BindFault
+abbrev pub faults_by_root : (DocumentType → List Row) → List Node → Lists → Option DocumentType → Result ReadingReport BindFault
 faults_by_root rows nodes lists None = Err unknown_root
 faults_by_root rows nodes lists (Some table) =
-    Ok (record { which = table; faults = faults_in nodes (rows table) lists; passed = passed_nodes nodes (rows table) })
+    Ok (record { document_type = table; faults = faults_in nodes (rows table) lists; passed = passed_nodes nodes (rows table) })
 
 -- the same by the table that the root selects, or why none is selected
-abbrev pub faults_by : (Which → List Row) → List Node → Lists → Result Faulted BindFault
-faults_by rows nodes lists = faults_by_root rows nodes lists (which_of nodes)
+abbrev pub faults_by : (DocumentType → List Row) → List Node → Lists → Result ReadingReport BindFault
+faults_by rows nodes lists = faults_by_root rows nodes lists (document_type_of nodes)
 
 -- What was found is the definition's answer, unless memory ran out.
-abbrev pub FindsFaults : Result Faulted BindFault → Result FaultsFound BindFault → Type 0
-FindsFaults expected (Ok found) = expected ≡ Ok (record { which = found.which; faults = found.faults.items; passed = found.passed_over.items })
+abbrev pub FindsFaults : Result ReadingReport BindFault → Result FaultsFound BindFault → Type 0
+FindsFaults expected (Ok found) = expected ≡ Ok (record { document_type = found.document_type; faults = found.faults.items; passed = found.passed_over.items })
 FindsFaults expected (Err fault) = fault.kind ≢ kinds.Memory → expected ≡ Err fault
 
 -- The faults, and what is passed over, are at nodes of the document.
@@ -62,23 +62,23 @@ pub record IsWithin (count : ℕ) (found : FaultsFound) : Type 0 where
 
 -- ---- what the code has
 
-abbrev pub kept_rows : KeptTables → Which → List Row
-kept_rows kept which.Invoice = kept.invoice
-kept_rows kept which.CreditNote = kept.credit_note
-kept_rows kept which.Cii = kept.cii
+abbrev pub kept_rows : KeptTables → DocumentType → List Row
+kept_rows kept document_type.Invoice = kept.invoice
+kept_rows kept document_type.CreditNote = kept.credit_note
+kept_rows kept document_type.Cii = kept.cii
 
 -- the rows of one of the tables
-abbrev pub rows_in : Tables → Which → List Row
+abbrev pub rows_in : Tables → DocumentType → List Row
 rows_in three.BuiltIn table = rows_of table
 rows_in (three.Kept kept) table = kept_rows kept table
 
 -- Each is well formed.
 abbrev pub AreFormed : Tables → Type 0
-AreFormed tables = (table : Which) → first_fault (rows_in tables table) ≡ Ok tt
+AreFormed tables = (table : DocumentType) → first_fault (rows_in tables table) ≡ Ok tt
 
 -- They are the three tables with the rows of these terms.
 abbrev pub AreTablesFor : List ExtTerm → Tables → Type 0
-AreTablesFor terms tables = (table : Which) → rows_in tables table ≡ rows_for terms table
+AreTablesFor terms tables = (table : DocumentType) → rows_in tables table ≡ rows_for terms table
 
 -- They are the three tables.
 abbrev pub AreTables : Tables → Type 0
@@ -91,7 +91,7 @@ Reads expected (Err fault) = fault.kind ≢ kinds.Memory → expected ≡ Err fa
 
 -- Want of memory stands at the document itself, and no term or group is at fault.
 abbrev pub want_of_memory : BindFault
-want_of_memory = record { kind = kinds.Memory; name = lacks.Nothing; node = 0 }
+want_of_memory = record { kind = kinds.Memory; name = violations.Nothing; node = 0 }
 
 -- No other fault is told as want of memory.
 abbrev pub IsWholeIfMemory : BindFault → Type 0

@@ -8,7 +8,7 @@ ghost use Rattle.extension_files.specs.Extensions.{is_extension};
 ghost use Rattle.bind_run.specs.Extensions as spec;
 ghost use Rattle.bind_run.specs.declared.extensions.ExtendFault.TheVariants as faults;
 
-use bind_rows::{Content, Copied, ElementName, Many, Which};
+use bind_rows::{Content, Copied, DocumentType, ElementName, Many};
 use bind_table::{AddedTerm, Binding, TableFault, TableKind, well_formed};
 use extension_files::{ExtPlace, ExtTerm, Paths};
 use std::alloc::{AllocError, Global};
@@ -17,7 +17,7 @@ use term_table::{Group, Term};
 /// The first row at which something is wrong, of the first of the three tables that isn't well formed with a user's terms.
 #[derive(Clone, Copy, PartialEq, Eq)]
 pub struct BadRow {
-    pub table: Which,
+    pub table: DocumentType,
     pub kind: TableKind,
     /// Its term, which is one that the user added.
     pub term: Option<Term>,
@@ -48,18 +48,22 @@ fn outer_of(place: ExtPlace) -> Option<Group>
     }
 }
 
-fn path_for(table: Which, paths: &Paths) -> Option<&Many<ElementName>>
+fn path_for(table: DocumentType, paths: &Paths) -> Option<&Many<ElementName>>
     ensures { option_map (λ names. names.now) result ≡ spec.path_for table paths.now }
 {
     match table {
-        Which::Invoice => paths.ubl.as_ref(),
-        Which::CreditNote => paths.credit_note.as_ref(),
-        Which::Cii => paths.cii.as_ref(),
+        DocumentType::Invoice => paths.ubl.as_ref(),
+        DocumentType::CreditNote => paths.credit_note.as_ref(),
+        DocumentType::Cii => paths.cii.as_ref(),
     }
 }
 
 /// The term with its path in the table's syntax, if it has one.
-fn added_of(alloc: Global, table: Which, term: &ExtTerm) -> Result<Option<AddedTerm>, AllocError>
+fn added_of(
+    alloc: Global,
+    table: DocumentType,
+    term: &ExtTerm,
+) -> Result<Option<AddedTerm>, AllocError>
     ensures { IfOk result (λ added. added ≡ spec.added_of table term.now) }
 {
     match path_for(table, &term.paths) {
@@ -68,14 +72,18 @@ fn added_of(alloc: Global, table: Which, term: &ExtTerm) -> Result<Option<AddedT
             number: term.number,
             outer: outer_of(term.place),
             inner: None,
-            letter: term.letter,
+            data_type: term.data_type,
             names: names.copied(alloc)?,
         })),
     }
 }
 
 /// The terms that have a path in the table's syntax.
-fn terms_for(alloc: Global, table: Which, terms: &[ExtTerm]) -> Result<Many<AddedTerm>, AllocError>
+fn terms_for(
+    alloc: Global,
+    table: DocumentType,
+    terms: &[ExtTerm],
+) -> Result<Many<AddedTerm>, AllocError>
     ensures { IfOk result (λ added. added ≡ spec.terms_for table terms.now) }
 {
     let mut added = Many::new(alloc);
@@ -91,7 +99,7 @@ fn terms_for(alloc: Global, table: Which, terms: &[ExtTerm]) -> Result<Many<Adde
 /// One of the three tables with the rows of terms.
 fn with_terms(
     alloc: Global,
-    table: Which,
+    table: DocumentType,
     own: &Binding,
     terms: &[ExtTerm],
 ) -> Result<Binding, AllocError>
@@ -125,7 +133,7 @@ fn term_at(table: &Binding, number: u32) -> Option<Term>
 }
 
 /// Whether a table is well formed, or the first row at which something is wrong.
-fn judged(table: Which, rows: &Binding) -> Result<(), BadRow>
+fn judged(table: DocumentType, rows: &Binding) -> Result<(), BadRow>
     ensures { result ≡ spec.judged_in table rows.now }
 {
     match well_formed(rows) {
@@ -141,7 +149,7 @@ fn judged(table: Which, rows: &Binding) -> Result<(), BadRow>
 /// One of the three tables with the rows of terms, if it is well formed with them.
 pub(crate) fn extended(
     alloc: Global,
-    table: Which,
+    table: DocumentType,
     own: &Binding,
     terms: &[ExtTerm],
 ) -> Result<Binding, ExtendFault>

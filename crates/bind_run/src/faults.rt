@@ -10,7 +10,7 @@ use crate::judging::faults;
 use crate::reading::out_of_memory;
 use crate::roots::binding_of;
 use crate::tables::Tables;
-use bind_meaning::{BindFault, Which};
+use bind_meaning::{BindFault, DocumentType};
 use bind_table::Binding;
 use code_lists::CodeLists;
 use inv_base::{Steps, Txt};
@@ -22,17 +22,17 @@ use std::sync::ledger::{Blank, Ledger};
 
 /// The faults of a document as an invoice, in their order, and the elements that its table passes over, in document order: those right
 /// inside an element of the table whose names lead no further, each with all that it holds.
-pub struct Faulted {
+pub struct ReadingReport {
     /// The table by which it was read.
-    pub which: Which,
+    pub document_type: DocumentType,
     pub faults: Vec<BindFault>,
     pub passed_over: Vec<NodeId>,
 }
 
-impl Drop for Faulted {
+impl Drop for ReadingReport {
     fn drop(self) {
-        let Faulted {
-            which: _,
+        let ReadingReport {
+            document_type: _,
             faults,
             passed_over,
         } = self;
@@ -48,7 +48,7 @@ pub fn faults_of_document(
     doc: &Doc<'_>,
     tables: &Tables,
     lists: &CodeLists,
-) -> Result<Faulted, BindFault>
+) -> Result<ReadingReport, BindFault>
     requires { AreFormed tables.now }
     ensures finds { FindsFaults (faults_by (rows_in tables.now) (tree_nodes doc.now) lists.now) result }
     ensures within { IfOk result (IsWithin (length doc.now.nodes)) }
@@ -57,8 +57,15 @@ pub fn faults_of_document(
 {
     doc.is_of_a_tree();
     match binding_of(doc) {
-        Ok(which) => {
-            match faults_counted::<Brand>(alloc, doc, tables, which, lists, Blank::new(1)) {
+        Ok(document_type) => {
+            match faults_of_table::<Brand>(
+                alloc,
+                doc,
+                tables,
+                document_type,
+                lists,
+                Blank::new(1),
+            ) {
                 Ok(found) => Ok(found),
                 Err(_) => Err(out_of_memory(doc)),
             }
@@ -68,26 +75,26 @@ pub fn faults_of_document(
 }
 
 /// The same by one of the tables, with steps that nobody asks for.
-fn faults_counted<L: Ledger>(
+fn faults_of_table<L: Ledger>(
     alloc: Global,
     doc: &Doc<'_>,
     tables: &Tables,
-    which: Which,
+    document_type: DocumentType,
     lists: &CodeLists,
     ledger: Blank,
-) -> Result<Faulted, AllocError>
+) -> Result<ReadingReport, AllocError>
     requires tables { AreFormed tables.now }
     requires name { ledger.name ≡ L.name }
     requires parts { ledger.parts ≡ L.parts }
     requires some { 0 < ledger.parts }
-    ensures which { IfOk result (λ found. found.which ≡ which) }
-    ensures faults { IfOk result (λ found. found.faults.items ≡ faults_in (tree_nodes doc.now) (rows_in tables.now which) lists.now) }
-    ensures passed_over { IfOk result (λ found. found.passed_over.items ≡ passed_nodes (tree_nodes doc.now) (rows_in tables.now which)) }
+    ensures document_type { IfOk result (λ found. found.document_type ≡ document_type) }
+    ensures faults { IfOk result (λ found. found.faults.items ≡ faults_in (tree_nodes doc.now) (rows_in tables.now document_type) lists.now) }
+    ensures passed_over { IfOk result (λ found. found.passed_over.items ≡ passed_nodes (tree_nodes doc.now) (rows_in tables.now document_type)) }
     ensures within { IfOk result (IsWithin (length doc.now.nodes)) }
 {
-    let table = tables.table(alloc, which)?;
+    let table = tables.table(alloc, document_type)?;
     let mut steps = Steps::<L>::new(ledger);
-    let answer = faults_by_table(alloc, doc, table.as_ref(), which, lists, &mut steps);
+    let answer = faults_by_table(alloc, doc, table.as_ref(), document_type, lists, &mut steps);
     drop(table);
     answer
 }
@@ -96,19 +103,19 @@ fn faults_by_table<L: Ledger>(
     alloc: Global,
     doc: &Doc<'_>,
     table: &Binding,
-    which: Which,
+    document_type: DocumentType,
     lists: &CodeLists,
     steps: &mut Steps<L>,
-) -> Result<Faulted, AllocError>
+) -> Result<ReadingReport, AllocError>
     requires { first_fault table.now ≡ Ok tt }
-    ensures which { IfOk result (λ found. found.which ≡ which) }
+    ensures document_type { IfOk result (λ found. found.document_type ≡ document_type) }
     ensures faults { IfOk result (λ found. found.faults.items ≡ faults_in (tree_nodes doc.now) table.now lists.now) }
     ensures passed_over { IfOk result (λ found. found.passed_over.items ≡ passed_nodes (tree_nodes doc.now) table.now) }
     ensures within { IfOk result (IsWithin (length doc.now.nodes)) }
 {
     let mut gathered = gather(alloc, doc, table, steps)?;
-    let picks = replace(&mut gathered.seating.picks, Vec::new(alloc));
-    let currency = gathered.seating.invoice_currency.as_ref().map(Txt::as_str);
+    let picks = replace(&mut gathered.numbered.picks, Vec::new(alloc));
+    let currency = gathered.numbered.invoice_currency.as_ref().map(Txt::as_str);
     let judged = faults(
         alloc,
         doc,
@@ -122,8 +129,8 @@ fn faults_by_table<L: Ledger>(
     let passed_over = replace(&mut gathered.others.passed_over, Vec::new(alloc));
     drop(gathered);
     match judged {
-        Ok(faults) => Ok(Faulted {
-            which,
+        Ok(faults) => Ok(ReadingReport {
+            document_type,
             faults,
             passed_over,
         }),

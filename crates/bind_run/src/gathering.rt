@@ -8,7 +8,7 @@ ghost use Rattle.bind_meaning.specs.Kept.{all_kept, all_kept_placed};
 ghost use Rattle.bind_meaning.specs.Terms.{in_order};
 ghost use Rattle.bind_terms.specs.Reading.{indicator_picks, term_places};
 
-use bind_seats::{Seating, seat};
+use bind_seats::{NumberedPicks, number_occurrences};
 use bind_table::Binding;
 use bind_walk::{Picks, pick_all};
 use inv_base::Steps;
@@ -22,14 +22,14 @@ pub(crate) struct Gathered {
     /// What is picked of indicators, and the elements that the table passes over.
     pub(crate) others: Picks,
     /// What rows with a term pick, with its seats.
-    pub(crate) seating: Seating,
+    pub(crate) numbered: NumberedPicks,
 }
 
 impl Drop for Gathered {
     fn drop(self) {
-        let Gathered { others, seating } = self;
+        let Gathered { others, numbered } = self;
         drop(others);
-        drop(seating);
+        drop(numbered);
     }
 }
 
@@ -41,8 +41,8 @@ pub(crate) fn gather<L: Ledger>(
     steps: &mut Steps<L>,
 ) -> Result<Gathered, AllocError>
     requires { first_fault table.now ≡ Ok tt }
-    ensures picks { IfOk result (λ gathered. gathered.seating.picks.items ≡ all_kept_placed (term_places (tree_nodes doc.now) table.now)) }
-    ensures currency { IfOk result (λ gathered. gathered.seating.invoice_currency ≡ (currencies (tree_nodes doc.now) table.now).invoice) }
+    ensures picks { IfOk result (λ gathered. gathered.numbered.picks.items ≡ all_kept_placed (term_places (tree_nodes doc.now) table.now)) }
+    ensures currency { IfOk result (λ gathered. gathered.numbered.invoice_currency ≡ (currencies (tree_nodes doc.now) table.now).invoice) }
     ensures indicators { IfOk result (λ gathered. gathered.others.indicators.items
         ≡ all_kept (in_order (tree_nodes doc.now) (indicator_picks (tree_nodes doc.now) table.now))) }
     ensures passed_over { IfOk result (λ gathered. gathered.others.passed_over.items ≡ passed_nodes (tree_nodes doc.now) table.now) }
@@ -50,8 +50,8 @@ pub(crate) fn gather<L: Ledger>(
 {
     let mut others = pick_all(alloc, doc, table, steps)?;
     let terms = replace(&mut others.terms, Vec::new(alloc));
-    match seat(alloc, doc, table, terms, steps) {
-        Ok(seating) => Ok(Gathered { others, seating }),
+    match number_occurrences(alloc, doc, table, terms, steps) {
+        Ok(numbered) => Ok(Gathered { others, numbered }),
         Err(error) => {
             drop(others);
             Err(error)

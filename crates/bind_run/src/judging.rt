@@ -2,7 +2,7 @@
 ghost use Rattle.std.specs.Prelude.{◌≡◌, ◌≢◌, ◌<◌, All, chars, option_map, IfOk, IfErr, Ok, Err, length};
 ghost use Rattle.node_arena.specs.Moves.{tree_nodes};
 ghost use Rattle.bind_table.specs.WellFormed.{first_fault};
-ghost use Rattle.inv_terms.specs.declared.lacks.Name.TheVariants as names;
+ghost use Rattle.inv_terms.specs.declared.violations.Name.TheVariants as names;
 ghost use Rattle.bind_meaning.specs.declared.fault.BindKind.TheVariants as kinds;
 ghost use Rattle.bind_meaning.specs.Currencies.{currencies};
 ghost use Rattle.bind_meaning.specs.Faults.{faults_in};
@@ -12,7 +12,7 @@ ghost use Rattle.bind_terms.specs.Reading.{indicator_picks, term_places};
 
 use bind_meaning::{BindFault, Picked, PlacedPick};
 use bind_table::Binding;
-use bind_terms::Scene;
+use bind_terms::ReadingInput;
 use code_lists::CodeLists;
 use inv_base::Steps;
 use inv_terms::Invoice;
@@ -40,14 +40,14 @@ pub(crate) fn judge<L: Ledger>(
     ensures err { IfErr result (λ fault. fault.kind ≢ kinds.Memory → terms_of (tree_nodes doc.now) table.now lists.now ≡ Err fault) }
     ensures memory { IfErr result (λ fault. fault.kind ≡ kinds.Memory → fault ≡ record { kind = kinds.Memory; name = names.Nothing; node = 0 }) }
 {
-    let scene = Scene {
+    let input = ReadingInput {
         alloc,
         doc,
         table,
         lists,
         invoice_currency,
     };
-    bind_terms::judge(&scene, picks, indicators, steps)
+    bind_terms::judge(&input, picks, indicators, steps)
 }
 
 /// All faults of the document as an invoice of the table, in their order.
@@ -68,12 +68,12 @@ pub(crate) fn faults<L: Ledger>(
     ensures faults { IfOk result (λ faults. faults.items ≡ faults_in (tree_nodes doc.now) table.now lists.now) }
     ensures within { IfOk result (λ faults. All (λ fault. fault.node < length doc.now.nodes) faults.items) }
 {
-    let scene = Scene {
+    let input = ReadingInput {
         alloc,
         doc,
         table,
         lists,
         invoice_currency,
     };
-    bind_terms::faults(&scene, picks, indicators, steps)
+    bind_terms::faults(&input, picks, indicators, steps)
 }

@@ -12,10 +12,10 @@ mod roots;
 mod tables;
 
 pub use bind_carrying::{NotCarried, carries, target};
-pub use bind_meaning::{BindFault, BindKind, Syntax, Which};
+pub use bind_meaning::{BindFault, BindKind, DocumentType, Syntax};
 pub use bind_write::write;
 pub use extensions::{BadRow, ExtendFault};
-pub use faults::{Faulted, faults_of_document};
+pub use faults::{ReadingReport, faults_of_document};
 pub use laws::invoices_of_documents_are_valid;
 pub use reading::{ReadInvoice, read, read_document};
 pub use roots::binding_of;

@@ -9,7 +9,7 @@ use crate::gathering::gather;
 use crate::judging::judge;
 use crate::roots::binding_of;
 use crate::tables::Tables;
-use bind_meaning::{BindFault, BindKind, Which};
+use bind_meaning::{BindFault, BindKind, DocumentType};
 use bind_table::Binding;
 use code_lists::CodeLists;
 use inv_base::{Steps, Txt};
@@ -46,8 +46,8 @@ pub fn read<L: Ledger>(
         Ok(gathered) => gathered,
         Err(_) => return Err(out_of_memory(doc)),
     };
-    let picks = replace(&mut gathered.seating.picks, Vec::new(alloc));
-    let currency = gathered.seating.invoice_currency.as_ref().map(Txt::as_str);
+    let picks = replace(&mut gathered.numbered.picks, Vec::new(alloc));
+    let currency = gathered.numbered.invoice_currency.as_ref().map(Txt::as_str);
     let judged = judge(
         alloc,
         doc,
@@ -96,7 +96,14 @@ pub fn read_document(
 {
     doc.is_of_a_tree();
     match binding_of(doc) {
-        Ok(which) => read_counted::<Brand>(alloc, doc, tables, which, lists, Blank::new(1)),
+        Ok(document_type) => read_counted::<Brand>(
+            alloc,
+            doc,
+            tables,
+            document_type,
+            lists,
+            Blank::new(1),
+        ),
         Err(fault) => Err(fault),
     }
 }
@@ -106,7 +113,7 @@ fn read_counted<L: Ledger>(
     alloc: Global,
     doc: &Doc<'_>,
     tables: &Tables,
-    which: Which,
+    document_type: DocumentType,
     lists: &CodeLists,
     ledger: Blank,
 ) -> Result<ReadInvoice, BindFault>
@@ -114,10 +121,10 @@ fn read_counted<L: Ledger>(
     requires name { ledger.name ≡ L.name }
     requires parts { ledger.parts ≡ L.parts }
     requires some { 0 < ledger.parts }
-    ensures reads { Reads (terms_of (tree_nodes doc.now) (rows_in tables.now which) lists.now) result }
+    ensures reads { Reads (terms_of (tree_nodes doc.now) (rows_in tables.now document_type) lists.now) result }
     ensures memory { IfErr result IsWholeIfMemory }
 {
-    let table = match tables.table(alloc, which) {
+    let table = match tables.table(alloc, document_type) {
         Ok(table) => table,
         Err(_) => return Err(out_of_memory(doc)),
     };

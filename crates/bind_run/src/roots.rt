@@ -5,7 +5,7 @@ ghost use Rattle.bind_meaning.specs.Names.{is_spelled};
 ghost use Rattle.bind_run.specs.Ascii.{is_ascii};
 ghost use Rattle.bind_run.specs.Roots as spec;
 
-use bind_meaning::{BindFault, BindKind, Which};
+use bind_meaning::{BindFault, BindKind, DocumentType};
 use bind_rows::{Namespace, uri_of};
 use inv_terms::Name;
 use node_arena::{Doc, NodeId};
@@ -30,40 +30,40 @@ fn is_name(uri: &str, local: &str, namespace: Namespace, word: &str) -> bool
 }
 
 /// The syntax whose root has the expanded name.
-fn which_named(uri: &str, local: &str) -> Option<Which>
-    ensures { result ≡ spec.which_named (record { uri = chars uri.now; local = chars local.now }) }
+fn document_type_named(uri: &str, local: &str) -> Option<DocumentType>
+    ensures { result ≡ spec.document_type_named (record { uri = chars uri.now; local = chars local.now }) }
 {
     if is_name(uri, local, Namespace::UblInvoice, "Invoice") {
-        return Some(Which::Invoice);
+        return Some(DocumentType::Invoice);
     }
     if is_name(uri, local, Namespace::UblCreditNote, "CreditNote") {
-        return Some(Which::CreditNote);
+        return Some(DocumentType::CreditNote);
     }
     if is_name(uri, local, Namespace::CiiInvoice, "CrossIndustryInvoice") {
-        return Some(Which::Cii);
+        return Some(DocumentType::Cii);
     }
     None
 }
 
-fn which_of(doc: &Doc<'_>, root: NodeId) -> Option<Which>
+fn document_type_of(doc: &Doc<'_>, root: NodeId) -> Option<DocumentType>
     requires { root ≡ 1 }
-    ensures { result ≡ spec.which_of (tree_nodes doc.now) }
+    ensures { result ≡ spec.document_type_of (tree_nodes doc.now) }
 {
     doc.is_of_a_tree();
     match doc.name(root) {
         None => None,
-        Some(id) => which_named(doc.names().uri(id), doc.names().local(id)),
+        Some(id) => document_type_named(doc.names().uri(id), doc.names().local(id)),
     }
 }
 
 /// The syntax in which a document is written, by the expanded name of its root. Any other root is UnknownRoot, at the root.
 /// It takes no memory.
-pub fn binding_of(doc: &Doc<'_>) -> Result<Which, BindFault>
-    ensures { result ≡ spec.known (spec.which_of (tree_nodes doc.now)) }
+pub fn binding_of(doc: &Doc<'_>) -> Result<DocumentType, BindFault>
+    ensures { result ≡ spec.known (spec.document_type_of (tree_nodes doc.now)) }
 {
     let root = doc.root();
-    match which_of(doc, root) {
-        Some(which) => Ok(which),
+    match document_type_of(doc, root) {
+        Some(document_type) => Ok(document_type),
         None => Err(BindFault {
             kind: BindKind::UnknownRoot,
             name: Name::Nothing,

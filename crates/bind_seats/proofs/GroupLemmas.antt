@@ -7,7 +7,7 @@ use Rattle.term_table.specs.declared.groups.Group.{Group}
 use Rattle.term_table.specs.declared.groups.Group.TheVariants as groups
 use Rattle.term_table.specs.declared.terms.Term.{Term}
 use Rattle.term_table.specs.declared.terms.TermRow.{TermRow}
-use Rattle.term_table.specs.declared.terms.Letter.TheVariants as letters
+use Rattle.term_table.specs.declared.terms.DataType.TheVariants as data_types
 use Rattle.term_table.specs.declared.terms.Mark.TheVariants as marks
 use Rattle.term_table.specs.SemanticModel.{same_term, listing_rows}
 use Rattle.term_table.specs.Groups.{same_group, parent_of, occurrence_of}
@@ -100,7 +100,7 @@ outer-is law outer inner group h =
 -- ---- rows of a well-formed table
 
 blank : TermRow
-blank = record { term = record { number = 0; part = 0 }; group = groups.Root; letter = letters.T; mark = marks.Optional; list = None }
+blank = record { term = record { number = 0; part = 0 }; group = groups.Root; data_type = data_types.T; mark = marks.Optional; list = None }
 
 some_of : (o : Option ℕ) → is_none o ≡ false → (k : ℕ) × (o ≡ Some k)
 some_of None h = absurd (false≢true (sym h))

@@ -6,10 +6,10 @@ pub mod AttributeLemmas
 pub mod OrderLemmas
 pub mod TableLemmas
 pub mod NumberLemmas
-pub mod FillerLemmas
+pub mod PlaceholderLemmas
 pub mod GroupLemmas
 pub mod SeatLemmas
 pub mod KnownLemmas
 pub mod WholeLemmas
-pub mod SeatingLemmas
+pub mod NumberedPicksLemmas
 pub mod AgainLemmas

@@ -30,7 +30,7 @@ use Rattle.bind_seats.proofs.ListLemmas.{passes, any-filter_map, any-map, any-al
 use Rattle.bind_seats.specs.Nodes.{Sound}
 use Rattle.bind_seats.proofs.WayLemmas.{IsWay}
 use Rattle.bind_seats.proofs.NumberLemmas.{place-is}
-use Rattle.bind_seats.proofs.FillerLemmas.{IsPick, row-is}
+use Rattle.bind_seats.proofs.PlaceholderLemmas.{IsPick, row-is}
 use Rattle.bind_seats.proofs.GroupLemmas.{StepLaw, same_group-is, nested-row}
 
 -- ---- elements of groups are nodes

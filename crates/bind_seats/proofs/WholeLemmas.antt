@@ -17,11 +17,11 @@ use Rattle.bind_seats.specs.Marks.{has_mark}
 use Rattle.bind_seats.specs.Nodes.{Sound}
 use Rattle.bind_seats.specs.Rowed.{AreRowed, AreWithin, IsRowed}
 use Rattle.bind_seats.specs.Currency.{named_currencies}
-use Rattle.bind_seats.specs.Fillers.{marks_beside, stays}
+use Rattle.bind_seats.specs.Placeholders.{marks_beside, stays}
 use Rattle.bind_seats.specs.Occurrences.{IsSeated}
 use Rattle.bind_seats.proofs.OrderLemmas.{All-in_order}
 use Rattle.bind_seats.proofs.TableLemmas.{picked_from, currencies-are}
-use Rattle.bind_seats.proofs.FillerLemmas.{IsPick, are-picks, staying-are, terms-are-picks}
+use Rattle.bind_seats.proofs.PlaceholderLemmas.{IsPick, are-picks, staying-are, terms-are-picks}
 use Rattle.bind_seats.proofs.GroupLemmas.{StepLaw}
 use Rattle.bind_seats.proofs.SeatLemmas.{kept-rowed, seated-are}
 

@@ -2,5 +2,5 @@ pub mod Nodes
 pub mod Marks
 pub mod Rowed
 pub mod Currency
-pub mod Fillers
+pub mod Placeholders
 pub mod Occurrences

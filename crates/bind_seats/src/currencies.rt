@@ -7,9 +7,9 @@ ghost use Rattle.bind_meaning.specs.Currencies as spec;
 ghost use Rattle.bind_seats.specs.Currency as own;
 ghost use Rattle.bind_seats.specs.Rowed.{AreWithin, pick_of};
 
+use crate::input::NumberingInput;
 use crate::known::nodes_are_sound;
 use crate::rowed::has_term;
-use crate::scene::Scene;
 use crate::texts::trimmed_string;
 use bind_meaning::Picked;
 use bind_rows::{Row, Same, Written};
@@ -61,36 +61,36 @@ fn first_node(rows: &[Row], picks: &[Picked], term: Term) -> Option<NodeId>
 }
 
 fn named_currency<L: Ledger>(
-    scene: &Scene<'_, '_>,
+    input: &NumberingInput<'_, '_>,
     picks: &[Picked],
     term: Term,
     steps: &mut Steps<L>,
 ) -> Result<Option<Txt>, AllocError>
-    requires { AreWithin (length scene.now.doc.now.nodes) picks.now }
-    ensures { IfOk result (λ text. text ≡ own.named_currency (tree_nodes scene.now.doc.now) scene.now.rows.now picks.now term) }
+    requires { AreWithin (length input.now.doc.now.nodes) picks.now }
+    ensures { IfOk result (λ text. text ≡ own.named_currency (tree_nodes input.now.doc.now) input.now.rows.now picks.now term) }
 {
-    match first_node(scene.rows, picks, term) {
+    match first_node(input.rows, picks, term) {
         None => Ok(None),
-        Some(n) => Ok(Some(trimmed_string(scene.alloc, scene.doc, n, steps)?)),
+        Some(n) => Ok(Some(trimmed_string(input.alloc, input.doc, n, steps)?)),
     }
 }
 
 impl Currencies {
     /// The trimmed strings of the first nodes that the rows of BT-5 and BT-6 pick.
     pub(crate) fn named<L: Ledger>(
-        scene: &Scene<'_, '_>,
+        input: &NumberingInput<'_, '_>,
         picks: &[Picked],
         steps: &mut Steps<L>,
     ) -> Result<Currencies, AllocError>
-        requires { AreWithin (length scene.now.doc.now.nodes) picks.now }
+        requires { AreWithin (length input.now.doc.now.nodes) picks.now }
         ensures invoice { IfOk result (λ c. c.invoice
-            ≡ (own.named_currencies (tree_nodes scene.now.doc.now) scene.now.rows.now picks.now).invoice) }
+            ≡ (own.named_currencies (tree_nodes input.now.doc.now) input.now.rows.now picks.now).invoice) }
         ensures accounting { IfOk result (λ c. c.accounting
-            ≡ (own.named_currencies (tree_nodes scene.now.doc.now) scene.now.rows.now picks.now).accounting) }
+            ≡ (own.named_currencies (tree_nodes input.now.doc.now) input.now.rows.now picks.now).accounting) }
     {
         Ok(Currencies {
-            invoice: named_currency(scene, picks, INVOICE_CURRENCY, steps)?,
-            accounting: named_currency(scene, picks, ACCOUNTING_CURRENCY, steps)?,
+            invoice: named_currency(input, picks, INVOICE_CURRENCY, steps)?,
+            accounting: named_currency(input, picks, ACCOUNTING_CURRENCY, steps)?,
         })
     }
 

@@ -2,13 +2,13 @@
 #![tactic(auto)]
 
 mod currencies;
-mod fillers;
+mod input;
 mod known;
 mod marks;
+mod numbered_picks;
 mod occurrences;
+mod placeholders;
 mod rowed;
-mod scene;
-mod seating;
 mod texts;
 
-pub use seating::{Seating, seat};
+pub use numbered_picks::{NumberedPicks, number_occurrences};

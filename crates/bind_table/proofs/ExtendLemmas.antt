@@ -7,7 +7,7 @@ use Rattle.std.proofs.lemmas.Option.{same_Some}
 use Rattle.bind_rows.specs.declared.names.ElementName.{ElementName}
 use Rattle.bind_rows.specs.declared.rows.Row.{Row}
 use Rattle.bind_rows.specs.declared.rows.Step.{Step}
-use Rattle.bind_rows.specs.declared.tables.Which.{Which}
+use Rattle.bind_rows.specs.declared.tables.DocumentType.{DocumentType}
 use Rattle.bind_rows.specs.Added.{built}
 use Rattle.bind_rows.specs.Same.{same_name, choose}
 use Rattle.bind_table.specs.declared.extending.AddedTerm.{AddedTerm}
@@ -82,13 +82,13 @@ small-path rows top before (n ∷ names) few room =
           (before ++ n ∷ []) names few (omega (arith, room, low)),
     )
 
-pub added-steps : (table : Which) (rows : List Row) (a : AddedTerm) → HasRoom rows a → HasSteps (added_row table rows a)
+pub added-steps : (table : DocumentType) (rows : List Row) (a : AddedTerm) → HasRoom rows a → HasSteps (added_row table rows a)
 added-steps table rows a room =
     let e = length-path rows (greatest rows) [] (names_for (built rows) a) in
     let h = room.0 in
     omega (arith, e, h)
 
-pub added-numbers : (table : Which) (rows : List Row) (a : AddedTerm) → HasRoom rows a → HasSmallNumbers (added_row table rows a)
+pub added-numbers : (table : DocumentType) (rows : List Row) (a : AddedTerm) → HasRoom rows a → HasSmallNumbers (added_row table rows a)
 added-numbers table rows a room =
     let h = room.1 in
     All-from_recursion (λ (s : Step). s.number < 2 ^ 31) (path_of rows (greatest rows) [] (names_for (built rows) a))

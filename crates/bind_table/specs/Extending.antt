@@ -2,8 +2,8 @@
 -- of the table as far as it has such names, and through new ones from there on.
 use Rattle.std.specs.Prelude.{ℕ, ◌+◌, ◌==◌, false, List, [], ◌∷◌, ◌++◌, map, fold, max, take, length, Option, Some, None}
 use Rattle.term_table.specs.declared.groups.Group.{Group}
-use Rattle.term_table.specs.declared.terms.Letter.{Letter}
-use Rattle.term_table.specs.declared.terms.Letter.TheVariants as letters
+use Rattle.term_table.specs.declared.terms.DataType.{DataType}
+use Rattle.term_table.specs.declared.terms.DataType.TheVariants as data_types
 use Rattle.term_table.specs.declared.terms.Term.{Term}
 use Rattle.bind_rows.specs.declared.names.ElementName.{ElementName}
 use Rattle.bind_rows.specs.declared.names.Leaf.TheVariants as leaves
@@ -15,8 +15,8 @@ use Rattle.bind_rows.specs.declared.rows.Repeats.TheVariants as repeat
 use Rattle.bind_rows.specs.declared.rows.Row.{Row}
 use Rattle.bind_rows.specs.declared.rows.Step.{Step}
 use Rattle.bind_rows.specs.declared.rows.Written.TheVariants as written
-use Rattle.bind_rows.specs.declared.tables.Which.{Which}
-use Rattle.bind_rows.specs.declared.tables.Which.TheVariants as which
+use Rattle.bind_rows.specs.declared.tables.DocumentType.{DocumentType}
+use Rattle.bind_rows.specs.declared.tables.DocumentType.TheVariants as document_type
 use Rattle.bind_rows.specs.Added.{built}
 use Rattle.bind_rows.specs.Same.{same_name, choose}
 use Rattle.bind_table.specs.WellFormed.{first_carrier}
@@ -88,29 +88,29 @@ names_for own a = map (λ (s : Step). s.name) (context_path own a.outer a.inner)
 -- ---- its row
 
 -- the form of a type: the dates of CII have no dashes
-abbrev pub form_of_type : Which → Letter → Form
-form_of_type which.Cii letters.D = forms.TypedPlainDate
-form_of_type which.Cii letter = forms.Typed letter
-form_of_type which.Invoice letter = forms.Typed letter
-form_of_type which.CreditNote letter = forms.Typed letter
+abbrev pub form_of_type : DocumentType → DataType → Form
+form_of_type document_type.Cii data_types.D = forms.TypedPlainDate
+form_of_type document_type.Cii data_type = forms.Typed data_type
+form_of_type document_type.Invoice data_type = forms.Typed data_type
+form_of_type document_type.CreditNote data_type = forms.Typed data_type
 
 abbrev pub added_term : ℕ → Term
 added_term number = record { number = 1000 + number; part = 0 }
 
-abbrev pub added_row : Which → List Row → AddedTerm → Row
+abbrev pub added_row : DocumentType → List Row → AddedTerm → Row
 added_row table rows a = record {
   path = path_of rows (greatest rows) [] (names_for (built rows) a);
   leaf = leaves.Element;
   outer = a.outer;
   inner = a.inner;
   content = contents.Term (added_term a.number);
-  form = form_of_type table a.letter;
+  form = form_of_type table a.data_type;
   repeats = repeat.Once;
   written = written.Always;
   check = checks.Nothing;
 }
 
 -- the rows with those of the terms, one behind the other: each finds the elements of those before it
-abbrev pub extended : Which → List Row → List AddedTerm → List Row
+abbrev pub extended : DocumentType → List Row → List AddedTerm → List Row
 extended table rows [] = rows
 extended table rows (a ∷ others) = extended table (rows ++ added_row table rows a ∷ []) others

@@ -75,7 +75,7 @@ repeats_of _ = repeat.Once
 
 abbrev pub written_of : Cell → Written
 written_of (cells.AgreeingUnwritten number) = written.Never
-written_of (cells.Filled number text beside) = written.OrFiller (record { text = chars text.now; beside = bt beside })
+written_of (cells.Filled number text beside) = written.OrPlaceholder (record { text = chars text.now; beside = bt beside })
 written_of (cells.Iban number) = written.IfIban
 written_of (cells.OtherAccount number) = written.IfNotIban
 written_of (cells.Unschemed number) = written.IfNoScheme

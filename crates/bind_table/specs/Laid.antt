@@ -62,15 +62,15 @@ all_writable root (a_line s cells inside rest) =
     && (list_all (λ (cell : Cell). is_writable_leaf cell.row.leaf) cells && (all_writable root inside && all_writable root rest))
 
 -- The lines are one root element with what is inside it.
-abbrev pub is_laid_plan : Plan → Bool
-is_laid_plan nothing = false
-is_laid_plan (a_line s cells inside (a_line t others inside' rest)) = false
-is_laid_plan (a_line s cells inside nothing) =
+abbrev pub is_writable_plan : Plan → Bool
+is_writable_plan nothing = false
+is_writable_plan (a_line s cells inside (a_line t others inside' rest)) = false
+is_writable_plan (a_line s cells inside nothing) =
     are_distinct (s.number ∷ element_numbers inside)
     && (all_end_apart (a_line s cells inside nothing) && all_writable s.name.namespace (a_line s cells inside nothing))
 
 -- Rows share a line only where they have equal elements, so "each number is one line" says that the elements of one
 -- number are one: they have one name, are both or neither always written, have one group and one set of guards, and
 -- stand inside the same elements.
-abbrev pub is_laid : List Row → Bool
-is_laid rows = is_laid_plan (plan_of rows)
+abbrev pub is_writable : List Row → Bool
+is_writable rows = is_writable_plan (plan_of rows)

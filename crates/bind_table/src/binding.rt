@@ -8,7 +8,7 @@ use crate::extending::{AddedTerm, added_row, copy_of, push_terms};
 use crate::growing::add_row;
 use crate::judging::{TableFault, first_fault};
 use crate::lines::Line;
-use bind_rows::{Row, Which};
+use bind_rows::{DocumentType, Row};
 use std::alloc::{AllocError, Global};
 use std::marker::Model;
 
@@ -77,13 +77,17 @@ impl Binding {
     }
 
     /// Puts the row of a term that a user adds behind the others. Without memory for it nothing changes.
-    pub fn push_term(&mut self, which: Which, term: &AddedTerm) -> Result<(), AllocError>
+    pub fn push_term(
+        &mut self,
+        document_type: DocumentType,
+        term: &AddedTerm,
+    ) -> Result<(), AllocError>
         requires few { length self.old + 1 < 2 ^ 31 }
         requires room { HasRoom self.old term.now }
-        ensures ok { OnOk result (self.new ≡ self.old ++ added_row which self.old term.now ∷ []) }
+        ensures ok { OnOk result (self.new ≡ self.old ++ added_row document_type self.old term.now ∷ []) }
         ensures err { OnErr result (self.new ≡ self.old) }
     {
-        let row = added_row(self.alloc, which, self.rows.as_slice(), term)?;
+        let row = added_row(self.alloc, document_type, self.rows.as_slice(), term)?;
         self.push(row)
     }
 
@@ -91,16 +95,16 @@ impl Binding {
     pub fn extend(
         &self,
         alloc: Global,
-        which: Which,
+        document_type: DocumentType,
         terms: &[AddedTerm],
     ) -> Result<Binding, AllocError>
         requires steps { All HasSteps self.now }
         requires numbers { All HasSmallNumbers self.now }
-        requires room { HasRooms which self.now terms.now }
-        ensures { IfOk result (λ b. b ≡ extended which self.now terms.now) }
+        requires room { HasRooms document_type self.now terms.now }
+        ensures { IfOk result (λ b. b ≡ extended document_type self.now terms.now) }
     {
         let mut binding = copy_of(alloc, self.rows.as_slice())?;
-        match push_terms(&mut binding, which, terms) {
+        match push_terms(&mut binding, document_type, terms) {
             Ok(()) => Ok(binding),
             Err(error) => {
                 drop(binding);

@@ -1,7 +1,7 @@
 ghost use Rattle.std.specs.Prelude.{◌≡◌, IfOk};
 ghost use Rattle.bind_table.specs.Items as spec;
 
-use bind_rows::{Check, Content, Filler, Form, Repeats, Written};
+use bind_rows::{Check, Content, Form, Placeholder, Repeats, Written};
 use inv_base::Txt;
 use std::alloc::{AllocError, Global};
 use term_table::Term;
@@ -114,7 +114,7 @@ pub(crate) fn written_of(alloc: Global, cell: &Cell) -> Result<Written, AllocErr
 {
     match cell {
         Cell::AgreeingUnwritten(_) => Ok(Written::Never),
-        Cell::Filled(_, text, beside) => Ok(Written::OrFiller(Filler {
+        Cell::Filled(_, text, beside) => Ok(Written::OrPlaceholder(Placeholder {
             text: Txt::of(alloc, text)?,
             beside: bt(*beside),
         })),

@@ -6,11 +6,11 @@ ghost use Rattle.bind_table.specs.Limits.{HasSteps, HasSmallNumbers, HasRooms};
 use crate::binding::Binding;
 use crate::judging::first_carrier;
 use bind_rows::{
-    Check, Content, Copied, ElementName, Form, Leaf, Many, Repeats, Row, Same, Step, Which,
+    Check, Content, Copied, DocumentType, ElementName, Form, Leaf, Many, Repeats, Row, Same, Step,
     Written, is_added,
 };
 use std::alloc::{AllocError, Global};
-use term_table::{Group, Letter, Term};
+use term_table::{DataType, Group, Term};
 
 /// A term that a user adds, as one syntax writes it.
 pub struct AddedTerm {
@@ -20,7 +20,7 @@ pub struct AddedTerm {
     pub outer: Option<Group>,
     pub inner: Option<Group>,
     /// The type of its values.
-    pub letter: Letter,
+    pub data_type: DataType,
     /// The names that lead to it from the root, or from the element of the innermost group.
     pub names: Many<ElementName>,
 }
@@ -31,7 +31,7 @@ impl Drop for AddedTerm {
             number: _,
             outer: _,
             inner: _,
-            letter: _,
+            data_type: _,
             names,
         } = self;
         drop(names);
@@ -233,16 +233,16 @@ fn added_path(alloc: Global, rows: &[Row], term: &AddedTerm) -> Result<Many<Step
     path
 }
 
-fn form_of_type(which: Which, letter: Letter) -> Form
-    ensures { result ≡ spec.form_of_type which letter }
+fn form_of_type(document_type: DocumentType, data_type: DataType) -> Form
+    ensures { result ≡ spec.form_of_type document_type data_type }
 {
-    match which {
-        Which::Cii => match letter {
-            Letter::D => Form::TypedPlainDate,
-            _ => Form::Typed(letter),
+    match document_type {
+        DocumentType::Cii => match data_type {
+            DataType::D => Form::TypedPlainDate,
+            _ => Form::Typed(data_type),
         },
-        Which::Invoice => Form::Typed(letter),
-        Which::CreditNote => Form::Typed(letter),
+        DocumentType::Invoice => Form::Typed(data_type),
+        DocumentType::CreditNote => Form::Typed(data_type),
     }
 }
 
@@ -258,12 +258,12 @@ fn added_term(number: u8) -> Term
 /// The row of a term that a user adds to a table.
 pub(crate) fn added_row(
     alloc: Global,
-    which: Which,
+    document_type: DocumentType,
     rows: &[Row],
     term: &AddedTerm,
 ) -> Result<Row, AllocError>
     requires { spec.greatest rows.now + length (spec.names_for (built rows.now) term.now) < 2 ^ 31 }
-    ensures { IfOk result (λ row. row ≡ spec.added_row which rows.now term.now) }
+    ensures { IfOk result (λ row. row ≡ spec.added_row document_type rows.now term.now) }
 {
     let path = added_path(alloc, rows, term)?;
     Ok(Row {
@@ -272,7 +272,7 @@ pub(crate) fn added_row(
         outer: term.outer,
         inner: term.inner,
         content: Content::Term(added_term(term.number)),
-        form: form_of_type(which, term.letter),
+        form: form_of_type(document_type, term.data_type),
         repeats: Repeats::Once,
         written: Written::Always,
         check: Check::Nothing,
@@ -311,14 +311,14 @@ fn push_copies(alloc: Global, binding: &mut Binding, rows: &[Row]) -> Result<(),
 /// Puts the rows of terms behind a table's.
 pub(crate) fn push_terms(
     binding: &mut Binding,
-    which: Which,
+    document_type: DocumentType,
     terms: &[AddedTerm],
 ) -> Result<(), AllocError>
-    requires { HasRooms which binding.old terms.now }
-    ensures { IfOk result (λ _. binding.new ≡ spec.extended which binding.old terms.now) }
+    requires { HasRooms document_type binding.old terms.now }
+    ensures { IfOk result (λ _. binding.new ≡ spec.extended document_type binding.old terms.now) }
 {
     'terms: for term in terms {
-        binding.push_term(which, term)?;
+        binding.push_term(document_type, term)?;
     }
     Ok(())
 }

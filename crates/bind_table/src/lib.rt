@@ -19,8 +19,8 @@ mod notation;
 mod parting;
 
 pub use bind_rows::{
-    Check, Content, ElementName, Filler, Form, Guard, Leaf, Namespace, Repeats, Row, Step, Test,
-    Written,
+    Check, Content, ElementName, Form, Guard, Leaf, Namespace, Placeholder, Repeats, Row, Step,
+    Test, Written,
 };
 pub use binding::{Binding, well_formed};
 pub use cells::Cell;

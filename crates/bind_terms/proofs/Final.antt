@@ -26,7 +26,7 @@ use Rattle.bind_meaning.specs.Currencies.{Currencies, currencies}
 use Rattle.bind_meaning.specs.Kept.{kept, all_kept, kept_placed, all_kept_placed}
 use Rattle.bind_meaning.specs.Picks.{Pick, numbered}
 use Rattle.bind_meaning.specs.declared.fault.BindFault.{BindFault}
-use Rattle.bind_meaning.specs.Faults.{lacks_in, every_fault, put_faults, in_fault_order, faults_in}
+use Rattle.bind_meaning.specs.Faults.{violations_in, every_fault, put_faults, in_fault_order, faults_in}
 use Rattle.bind_meaning.specs.Seats.{Placed, rooms}
 use Rattle.bind_meaning.specs.Judging.{Found, Told, seat_of, first_before, Cause, first_cause, causes, fault_of, faults_behind, wrong_word, least, least_from}
 use Rattle.bind_meaning.specs.Judging.{is_bad, is_excess, is_not_listed, is_foreign, is_disagreeing, breaks}
@@ -37,7 +37,7 @@ use Rattle.bind_terms.specs.declared.firsts.First.{First}
 use Rattle.bind_terms.specs.declared.judging.Verdict.{Verdict}
 use Rattle.bind_terms.specs.declared.judging.Verdict.TheVariants as verdicts
 use Rattle.bind_terms.specs.Entries.{entries_of}
-use Rattle.bind_terms.specs.Passes.{all_told, words_found, lacks_found, found_at_picks, all_found, HasTold, HasFound, IsVerdict}
+use Rattle.bind_terms.specs.Passes.{all_told, words_found, violations_found, found_at_picks, all_found, HasTold, HasFound, IsVerdict}
 use Rattle.bind_terms.specs.declared.found.Spot.{Spot}
 use Rattle.bind_terms.specs.Faults.{found_in, least_of, Puts}
 use Rattle.bind_terms.specs.Reading.{indicator_picks, term_places, Answers, AreSorted}
@@ -90,7 +90,7 @@ first-false true b h = absurd (false≢true (sym h))
 first-false false b h = refl
 
 valued : (nodes : List Node) (lists : Lists) (c : Currencies) (before : Option Told) (t : Told) → fault_of nodes lists c before t ≡ []
-    → is_none t.said.value ≡ false
+    → is_none t.parsed.value ≡ false
 valued nodes lists c before t h =
     let none = no-kind (first_cause (causes nodes lists c before t)) _ h in
     let rest : List Cause = record {
@@ -98,7 +98,7 @@ valued nodes lists c before t h =
       holds = λ _. is_not_listed lists t;
     } ∷ (record { kind = kinds.CurrencyDiffers; holds = λ _. is_foreign nodes c t }
     ∷ (record { kind = kinds.Disagree; holds = λ _. is_disagreeing before t } ∷ [])) in
-    first-false (is_none t.said.value) (breaks nodes t.placed.pick.row.check t.placed.pick.node)
+    first-false (is_none t.parsed.value) (breaks nodes t.placed.pick.row.check t.placed.pick.node)
     (no-bad (is_excess before t) (has_element_inside nodes t.placed.pick.node) (is_bad nodes t) (first_cause rest) none)
 
 some-value : (o : Option Value) → is_none o ≡ false → (v : Value) × (o ≡ Some v)
@@ -113,7 +113,7 @@ all-valued : (nodes : List Node) (lists : Lists) (c : Currencies) (pre ts : List
     → All (λ t. is_placed t ≡ true) ts → Each IsWhole ts
 all-valued nodes lists c pre [] h placed = tt
 all-valued nodes lists c pre (t ∷ ts) h placed =
-    let v = some-value t.said.value (valued nodes lists c (first_before pre t) t
+    let v = some-value t.parsed.value (valued nodes lists c (first_before pre t) t
     (front-none (fault_of nodes lists c (first_before pre t) t) (faults_behind nodes lists c (pre ++ t ∷ []) ts) h)) in
     let p = some-place (seat_place (seat_of t)) (All-head (λ u. is_placed u ≡ true) t ts placed) in (
       record { place = p.0; value = v.0; placed = p.1; valued = v.1 },
@@ -234,16 +234,17 @@ module _ (nodes : List Node) (order : AreInOrder nodes) (some : 0 < length nodes
 
   module _ (picks : List PlacedPick) (es : Entries) (was given : List Found → Type 0) (firsts : List First) (h : HasTold nodes lists rows es was)
       (picks_are : picks ≡ all_kept_placed (term_places nodes rows)) (firsts_are : firsts ≡ map (λ (e : List ℕ × First). e.1) es)
-      (lacks : (qs : List Placed) → picks ≡ all_kept_placed qs → Puts was given (flat_map (lacks_in nodes (map seat_of_first firsts)) (rooms qs))) where
+      (violations : (qs : List Placed) → picks ≡ all_kept_placed qs → Puts was given (flat_map (violations_in nodes (map seat_of_first firsts)) (rooms qs)))
+          where
     alike : (p : Seat → Bool) → list_any p (map seat_of_first firsts) ≡ list_any p (map seat_of (all_told nodes rows))
     alike p =
         any-map seat_of_first p firsts ∙ (ap (list_any (λ (f : First). p (seat_of_first f))) firsts_are
         ∙ (any-map (λ (e : List ℕ × First). e.1) (λ (f : First). p (seat_of_first f)) es ∙ (h.same_seats p ∙ sym (any-map seat_of p (all_told nodes rows)))))
 
-    lacks-put : Puts was given (lacks_found nodes rows)
-    lacks-put =
+    violations-put : Puts was given (violations_found nodes rows)
+    violations-put =
         puts-same was given _ _ (rooms-same nodes (map seat_of_first firsts) (map seat_of (all_told nodes rows)) (rooms (term_places nodes rows)) alike)
-        (lacks (term_places nodes rows) picks_are)
+        (violations (term_places nodes rows) picks_are)
 
     invoice-is : found_at_picks nodes lists rows ≡ [] → flat_map entries_of firsts ≡ entries (all_told nodes rows)
     invoice-is faultless =
@@ -252,7 +253,7 @@ module _ (nodes : List Node) (order : AreInOrder nodes) (some : 0 < length nodes
 
     pub has-found : HasFound nodes lists rows firsts given
     has-found = record {
-      is_given = lacks-put (found_at_picks nodes lists rows ++ words_found nodes rows) h.is_given;
+      is_given = violations-put (found_at_picks nodes lists rows ++ words_found nodes rows) h.is_given;
       entries_are = invoice-is;
     }
 
@@ -264,13 +265,13 @@ module _ (nodes : List Node) (order : AreInOrder nodes) (some : 0 < length nodes
   pub found-least : least_of None (all_found nodes lists rows) ≡ least (all_faults nodes lists (currencies nodes rows) rows (term_places nodes rows))
   unfolding words_placed
   found-least =
-      least-append None (found_at_picks nodes lists rows ++ words_found nodes rows) (lacks_found nodes rows)
-      ∙ (ap (λ o. least_of o (lacks_found nodes rows))
+      least-append None (found_at_picks nodes lists rows ++ words_found nodes rows) (violations_found nodes rows)
+      ∙ (ap (λ o. least_of o (violations_found nodes rows))
       (least-append None (found_at_picks nodes lists rows) (words_found nodes rows)
       ∙ (words-same nodes order some rows (least_of None (found_at_picks nodes lists rows))
       ∙ sym (least-append None (found_at_picks nodes lists rows) words_placed)))
-      ∙ (sym (least-append None (found_at_picks nodes lists rows ++ words_placed) (lacks_found nodes rows))
-      ∙ (ap (least_of None) (append_assoc (found_at_picks nodes lists rows) words_placed (lacks_found nodes rows))
+      ∙ (sym (least-append None (found_at_picks nodes lists rows ++ words_placed) (violations_found nodes rows))
+      ∙ (ap (least_of None) (append_assoc (found_at_picks nodes lists rows) words_placed (violations_found nodes rows))
       ∙ every-least nodes lists (currencies nodes rows) rows (term_places nodes rows))))
 
   pub found-in-order : in_fault_order (all_found nodes lists rows) ≡ in_fault_order
@@ -284,9 +285,9 @@ module _ (nodes : List Node) (order : AreInOrder nodes) (some : 0 < length nodes
       (words-leave nodes order some rows) (words-enter nodes order some rows)
       (words-are-one nodes order some rows)
       ∙ ap (put_faults kept) (rows-words nodes (numbered 1 rows)) in
-      puts-append [] (a ++ words_found nodes rows) (lacks_found nodes rows)
-      ∙ (ap (λ l. put_faults l (lacks_found nodes rows)) (puts-append [] a (words_found nodes rows) ∙ inner)
-      ∙ (sym (puts-append kept words_placed (lacks_found nodes rows)) ∙ sym (puts-append [] a (words_placed ++ lacks_found nodes rows))))
+      puts-append [] (a ++ words_found nodes rows) (violations_found nodes rows)
+      ∙ (ap (λ l. put_faults l (violations_found nodes rows)) (puts-append [] a (words_found nodes rows) ∙ inner)
+      ∙ (sym (puts-append kept words_placed (violations_found nodes rows)) ∙ sym (puts-append [] a (words_placed ++ violations_found nodes rows))))
 
   pub kept-faults : (es : List (Spot × BindFault)) → map found_in es ≡ in_fault_order (all_found nodes lists rows)
       → map (λ (e : Spot × BindFault). e.1) es ≡ faults_in nodes rows lists

@@ -14,7 +14,7 @@ use Rattle.term_table.specs.declared.contexts.Seat.{Seat}
 use Rattle.term_table.specs.Contexts.{is_inside}
 use Rattle.term_table.specs.Places.{precedes}
 use Rattle.term_table.proofs.RunLemmas.{not_less, not_both_ways, same_ahead}
-use Rattle.inv_terms.specs.declared.lacks.Lack.{Lack}
+use Rattle.inv_terms.specs.declared.violations.ModelViolation.{ModelViolation}
 use Rattle.inv_terms.specs.Lacking.{all_missing}
 use Rattle.inv_terms.proofs.AllLemmas.{first-is, in-order}
 use Rattle.node_arena.specs.Moves.{last_inside}
@@ -24,7 +24,7 @@ use Rattle.bind_meaning.specs.declared.fault.BindKind.TheVariants as kinds
 use Rattle.bind_meaning.specs.Currencies.{Currencies, currencies}
 use Rattle.bind_meaning.specs.Seats.{Placed, Room, rooms}
 use Rattle.bind_meaning.specs.Judging.{Found, found, earlier, faults_behind, wrong_word, missing_in, missing_place, name_of, depth, seat_of, least}
-use Rattle.bind_meaning.specs.Faults.{lack_found, lacks_in, every_fault, in_fault_order, faults_of, every_fault_with, faults_in}
+use Rattle.bind_meaning.specs.Faults.{violation_found, violations_in, every_fault, in_fault_order, faults_of, every_fault_with, faults_in}
 use Rattle.bind_meaning.specs.Terms.{constant_picks, term_picks, place_all, told, all_faults, entries, passed_over, Read, terms_of}
 use Rattle.bind_terms.specs.Faults.{least_of}
 use Rattle.bind_terms.proofs.Tolds.{bool_cases, least-append}
@@ -62,51 +62,52 @@ first-alone (Some a) g xs all =
 -- ---- what is missing in a context
 
 module _ (nodes : List Node) (room : Room) where
-  abbrev IsBefore : Lack → Lack → Type 0
+  abbrev IsBefore : ModelViolation → ModelViolation → Type 0
   IsBefore a b = precedes a.place b.place ≡ true
 
-  behind-lack : (a b : Lack) → IsBefore a b → precedes (missing_place nodes room b.place) (missing_place nodes room a.place) ≡ false
-  behind-lack a b h =
+  behind-violation : (a b : ModelViolation) → IsBefore a b → precedes (missing_place nodes room b.place) (missing_place nodes room a.place) ≡ false
+  behind-violation a b h =
       same_ahead (last_inside nodes room.element) (last_inside nodes room.element) (1 ∷ ((2 - depth room.context) ∷ b.place))
       (1 ∷ ((2 - depth room.context) ∷ a.place)) refl
       ∙ (same_ahead 1 1 ((2 - depth room.context) ∷ b.place) ((2 - depth room.context) ∷ a.place) refl
       ∙ (same_ahead (2 - depth room.context) (2 - depth room.context) b.place a.place refl ∙ not_both_ways a.place b.place h))
 
-  behind-first : (lack : Lack) (lacks : List Lack) → AllPairs IsBefore (lack ∷ lacks) → All (IsBefore lack) lacks
-  behind-first lack lacks pairs k d below = pairs 0 (suc k) d (omega arith) (omega arith)
+  behind-first : (violation : ModelViolation) (violations : List ModelViolation) → AllPairs IsBefore (violation ∷ violations)
+      → All (IsBefore violation) violations
+  behind-first violation violations pairs k d below = pairs 0 (suc k) d (omega arith) (omega arith)
 
-  lacks-least : (o : Option Found) (lacks : List Lack) → AllPairs IsBefore lacks
-      → least_of o (map (lack_found nodes room) lacks)
-      ≡ least_of o (elim (slice_get lacks 0) [
+  violations-least : (o : Option Found) (violations : List ModelViolation) → AllPairs IsBefore violations
+      → least_of o (map (violation_found nodes room) violations)
+      ≡ least_of o (elim (slice_get violations 0) [
         | None ↦ []
-        | Some lack ↦ found (missing_place nodes room lack.place) kinds.Missing
-            (name_of lack.fault) room.element ∷ []
+        | Some violation ↦ found (missing_place nodes room violation.place) kinds.Missing
+            (name_of violation.fault) room.element ∷ []
       ])
-  lacks-least o [] pairs = refl
-  lacks-least o (lack ∷ lacks) pairs =
-      first-alone o (lack_found nodes room lack) (map (lack_found nodes room) lacks)
-      (All-map (λ (x : Found). precedes x.place (missing_place nodes room lack.place) ≡ false) (lack_found nodes room) lacks
-      (All-weaker (IsBefore lack) (λ (b : Lack). precedes (missing_place nodes room b.place) (missing_place nodes room lack.place) ≡ false)
-      (λ b h. behind-lack lack b h) lacks
-      (behind-first lack lacks pairs)))
+  violations-least o [] pairs = refl
+  violations-least o (violation ∷ violations) pairs =
+      first-alone o (violation_found nodes room violation) (map (violation_found nodes room) violations)
+      (All-map (λ (x : Found). precedes x.place (missing_place nodes room violation.place) ≡ false) (violation_found nodes room) violations
+      (All-weaker (IsBefore violation) (λ (b : ModelViolation). precedes (missing_place nodes room b.place) (missing_place nodes room violation.place) ≡ false)
+      (λ b h. behind-violation violation b h) violations
+      (behind-first violation violations pairs)))
 
-  room-least : (seats : List Seat) (o : Option Found) → least_of o (lacks_in nodes seats room) ≡ least_of o (missing_in nodes seats room)
+  room-least : (seats : List Seat) (o : Option Found) → least_of o (violations_in nodes seats room) ≡ least_of o (missing_in nodes seats room)
   room-least seats o =
       let here = filter (λ (seat : Seat). is_inside room.context seat.context) seats in
-      lacks-least o (all_missing here room.context) (in-order here room.context)
+      violations-least o (all_missing here room.context) (in-order here room.context)
       ∙ ap (λ x. least_of o (elim x [
         | None ↦ []
-        | Some lack ↦ found (missing_place nodes room lack.place) kinds.Missing
-            (name_of lack.fault) room.element ∷ []
+        | Some violation ↦ found (missing_place nodes room violation.place) kinds.Missing
+            (name_of violation.fault) room.element ∷ []
       ]))
       (sym (first-is here room.context))
 
 pub rooms-least : (nodes : List Node) (seats : List Seat) (rs : List Room) (o : Option Found)
-    → least_of o (flat_map (lacks_in nodes seats) rs) ≡ least_of o (flat_map (missing_in nodes seats) rs)
+    → least_of o (flat_map (violations_in nodes seats) rs) ≡ least_of o (flat_map (missing_in nodes seats) rs)
 rooms-least nodes seats [] o = refl
 rooms-least nodes seats (r ∷ rs) o =
-    least-append o (lacks_in nodes seats r) (flat_map (lacks_in nodes seats) rs)
-    ∙ (ap (λ x. least_of x (flat_map (lacks_in nodes seats) rs)) (room-least nodes r seats o)
+    least-append o (violations_in nodes seats r) (flat_map (violations_in nodes seats) rs)
+    ∙ (ap (λ x. least_of x (flat_map (violations_in nodes seats) rs)) (room-least nodes r seats o)
     ∙ (rooms-least nodes seats rs (least_of o (missing_in nodes seats r))
     ∙ sym (least-append o (missing_in nodes seats r) (flat_map (missing_in nodes seats) rs))))
 
@@ -116,7 +117,7 @@ every-least nodes lists c rows ps =
     let a = faults_behind nodes lists c [] (told nodes ps) in
     let w = flat_map (wrong_word nodes) (constant_picks nodes rows) in
     let seats = map seat_of (told nodes ps) in
-    let d = flat_map (lacks_in nodes seats) (rooms ps) in
+    let d = flat_map (violations_in nodes seats) (rooms ps) in
     let m = flat_map (missing_in nodes seats) (rooms ps) in
     least-append None a (w ++ d)
     ∙ (least-append (least_of None a) w d

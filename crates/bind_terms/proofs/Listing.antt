@@ -166,16 +166,16 @@ pub record IsWhole (t : Told) : Type 0 where
   pub place : List ℕ
   pub value : Value
   pub placed : seat_place (seat_of t) ≡ Some place
-  pub valued : t.said.value ≡ Some value
+  pub valued : t.parsed.value ≡ Some value
 
 abbrev entry_at : (t : Told) → IsWhole t → Entry
-entry_at t w = record { context = context_of t.placed; term = t.said.term; value = w.value }
+entry_at t w = record { context = context_of t.placed; term = t.parsed.term; value = w.value }
 
 entry-is : (t : Told) (w : IsWhole t) → entry_of t ≡ entry_at t w ∷ []
-entry-is t w = ap (λ v. elim v [ None ↦ [] | Some value ↦ record { context = context_of t.placed; term = t.said.term; value = value } ∷ [] ]) w.valued
+entry-is t w = ap (λ v. elim v [ None ↦ [] | Some value ↦ record { context = context_of t.placed; term = t.parsed.term; value = value } ∷ [] ]) w.valued
 
 first-entry-is : (t : Told) (w : IsWhole t) → entries_of (first_of t) ≡ entry_at t w ∷ []
-first-entry-is t w = ap (λ v. elim v [ None ↦ [] | Some value ↦ record { context = context_of t.placed; term = t.said.term; value = value } ∷ [] ]) w.valued
+first-entry-is t w = ap (λ v. elim v [ None ↦ [] | Some value ↦ record { context = context_of t.placed; term = t.parsed.term; value = value } ∷ [] ]) w.valued
 
 apart-places : (t u : Told) (w : IsWhole t) (x : IsWhole u) → is_of_seat t u ≡ false → w.place ≡ x.place → ⊥
 apart-places t u w x other e =

@@ -23,7 +23,7 @@ use Rattle.bind_meaning.specs.declared.picked.Seated.{Seated}
 use Rattle.bind_meaning.specs.Kept.{all_kept_placed}
 use Rattle.bind_meaning.specs.Seats.{Placed, Room, context_of, outer_room, inner_room, each_once, rooms}
 use Rattle.bind_meaning.specs.Judging.{Found}
-use Rattle.bind_meaning.specs.Faults.{lacks_in}
+use Rattle.bind_meaning.specs.Faults.{violations_in}
 use Rattle.bind_terms.specs.Rooms.{room_at, room_key, rooms_at, pick_rooms, has_key, AreKeysOf, once_if, unseen, SeesMore, Seen}
 use Rattle.bind_terms.proofs.Tolds.{bool_cases, append-nil, puts-both, puts-none, puts-same}
 use Rattle.bind_terms.proofs.Holding.{place-is, place-itself}
@@ -213,21 +213,22 @@ keys-more before keys more room known keys_are context =
 module _ (nodes : List Node) (seats : List Seat) (first : List Found → Type 0) (before : List Room) (keys more : List (List ℕ))
     (was given : List Found → Type 0)
     (s : Seen nodes seats first before keys was) (context : Context) where
-  abbrev lacks : List Room → List Found
-  lacks rooms = flat_map (lacks_in nodes seats) rooms
+  abbrev violations : List Room → List Found
+  violations rooms = flat_map (violations_in nodes seats) rooms
 
-  lacks-once : (seat : Option Seated) → lacks (each_once before) ++ lacks (unseen before context seat) ≡ lacks (each_once (before ++ rooms_at context seat))
-  lacks-once None = append-nil (lacks (each_once before)) ∙ ap (λ l. lacks (each_once l)) (sym (append-nil before))
-  lacks-once (Some t) =
-      sym (flat_map-append (lacks_in nodes seats) (each_once before) (unseen before context (Some t)))
-      ∙ ap (flat_map (lacks_in nodes seats)) (sym (once-more before (room_at context t.element)))
+  violations-once : (seat : Option Seated) → violations (each_once before) ++ violations (unseen before context seat)
+      ≡ violations (each_once (before ++ rooms_at context seat))
+  violations-once None = append-nil (violations (each_once before)) ∙ ap (λ l. violations (each_once l)) (sym (append-nil before))
+  violations-once (Some t) =
+      sym (flat_map-append (violations_in nodes seats) (each_once before) (unseen before context (Some t)))
+      ∙ ap (flat_map (violations_in nodes seats)) (sym (once-more before (room_at context t.element)))
 
   pub seen-more : (seat : Option Seated) → SeesMore nodes seats before context seat more was given
       → Seen nodes seats first (before ++ rooms_at context seat) more given
   seen-more seat m = record {
     keys_are = m.keys_are;
-    puts = puts-same first given _ _ (lacks-once seat) (puts-both first was given (lacks (each_once before))
-        (lacks (unseen before context seat)) s.puts m.puts);
+    puts = puts-same first given _ _ (violations-once seat) (puts-both first was given (violations (each_once before))
+        (violations (unseen before context seat)) s.puts m.puts);
   }
 
 pub seen-none : (nodes : List Node) (seats : List Seat) (first : List Found → Type 0) (keys : List (List ℕ)) → keys ≡ [] → Seen nodes seats first [] keys first

@@ -25,46 +25,46 @@ use Rattle.bind_meaning.specs.Picks.{term_in}
 use Rattle.bind_meaning.specs.Currencies.{Currencies}
 use Rattle.bind_meaning.specs.Kept.{kept_placed, all_kept_placed}
 use Rattle.bind_meaning.specs.Seats.{Placed, context_of}
-use Rattle.bind_meaning.specs.Values.{Said, said}
-use Rattle.bind_meaning.specs.Judging.{Found, Told, told_by, said_by, first_before, first_cause, causes, fault_of, seat_of}
+use Rattle.bind_meaning.specs.Values.{ParsedValue, parsed}
+use Rattle.bind_meaning.specs.Judging.{Found, Told, told_by, parsed_by, first_before, first_cause, causes, fault_of, seat_of}
 use Rattle.bind_meaning.specs.Terms.{told}
-use Rattle.bind_terms.specs.declared.said.Said.{Said as Kept}
-use Rattle.bind_terms.specs.declared.said.Sayings.{Sayings}
-use Rattle.bind_terms.specs.declared.said.Sayings.TheVariants as all
-use Rattle.bind_terms.specs.Sayings.{said_of, all_said}
+use Rattle.bind_terms.specs.declared.parsed_values.ParsedValue.{ParsedValue as Kept}
+use Rattle.bind_terms.specs.declared.parsed_values.ParsedValues.{ParsedValues}
+use Rattle.bind_terms.specs.declared.parsed_values.ParsedValues.TheVariants as all
+use Rattle.bind_terms.specs.ParsedValues.{parsed_of, all_parsed}
 use Rattle.bind_terms.specs.Kinds.{kind_of}
 use Rattle.bind_terms.specs.declared.firsts.First.{First}
 use Rattle.bind_terms.specs.Faults.{Puts}
-use Rattle.bind_terms.specs.Telling.{first_of, said_first, context_in, Entries, kept_at, Holds}
-use Rattle.bind_terms.specs.Steps.{row_numbered, IsOfRow, ArePlaced, said_by_row, told_at, put_entry, kept_behind, faults_at, Tells, TellsPick, TellsOf}
+use Rattle.bind_terms.specs.Telling.{first_of, parsed_first, context_in, Entries, kept_at, Holds}
+use Rattle.bind_terms.specs.Steps.{row_numbered, IsOfRow, ArePlaced, parsed_by_row, told_at, put_entry, kept_behind, faults_at, Tells, TellsPick, TellsOf}
 use Rattle.bind_terms.specs.Steps.{TellsAll, faults_again}
 use Rattle.bind_terms.proofs.Tolds.{append-nil, puts-same}
 use Rattle.bind_terms.proofs.Holding.{holds-none, holds-more}
 
 -- ---- one value
 
-causes-are : (nodes : List Node) (lists : Lists) (c : Currencies) (p : Placed) (s : Said) (before : Option Told)
-    → kind_of nodes lists c.invoice p.pick.row p.pick.node (context_of p) (option_map (λ (f : Told). f.said) before) s
+causes-are : (nodes : List Node) (lists : Lists) (c : Currencies) (p : Placed) (s : ParsedValue) (before : Option Told)
+    → kind_of nodes lists c.invoice p.pick.row p.pick.node (context_of p) (option_map (λ (f : Told). f.parsed) before) s
     ≡ first_cause (causes nodes lists c before (told_at p s))
 causes-are nodes lists c p s None = refl
 causes-are nodes lists c p s (Some f) = refl
 
-kept-said : (o : Option Told) → option_map said_first (option_map first_of o) ≡ option_map (λ (f : Told). f.said) o
-kept-said None = refl
-kept-said (Some f) = refl
+kept-parsed : (o : Option Told) → option_map parsed_first (option_map first_of o) ≡ option_map (λ (f : Told). f.parsed) o
+kept-parsed None = refl
+kept-parsed (Some f) = refl
 
 tells-one : (nodes : List Node) (lists : Lists) (invoice : Option (List ℕ)) (row : Row) (pick : PlacedPick) (one : Kept) (context : Context) (listed : ℕ)
     (kind : Option BindKind) (first : Option First)
     (old new : Entries) (was is : List Found → Type 0) → context ≡ context_in pick → Some listed ≡ row_of one.term context
     → first ≡ kept_at (row_place listed context) old
-    → kind ≡ kind_of nodes lists invoice row pick.node (context_in pick) (option_map said_first first) (said_of one)
+    → kind ≡ kind_of nodes lists invoice row pick.node (context_in pick) (option_map parsed_first first) (parsed_of one)
     → new ≡ put_entry old (row_place listed context) (record { context = context; row = listed; term = one.term; value = one.value })
     → ((q : List ℕ) → kept_at q new ≡ kept_behind q old (row_place listed context)
     (record { context = context; row = listed; term = one.term; value = one.value }))
-    → Puts was is (faults_at kind pick.node pick.row one.term) → Tells nodes lists invoice pick row (said_of one ∷ []) old was new is
+    → Puts was is (faults_at kind pick.node pick.row one.term) → Tells nodes lists invoice pick row (parsed_of one ∷ []) old was new is
 tells-one nodes lists invoice row pick one context listed kind first old new was is in_pick in_row firsts cause put looked fault before p c same_invoice
     same_pick same_row h =
-    let s : Said = said_of one in
+    let s : ParsedValue = parsed_of one in
     let t : Told = told_at p s in
     let stands : context_of p ≡ context_in pick = ap context_in same_pick in
     let here : context_of p ≡ context = stands ∙ sym in_pick in
@@ -75,13 +75,13 @@ tells-one nodes lists invoice row pick one context listed kind first old new was
     ∙ ap (λ x. unwrap_or (row_of one.term x) 0) (sym here) in
     let kept_first : ◌≡◌ {A = First} (record { context = context; row = listed; term = one.term; value = one.value }) (first_of t) =
     λ i. record { context = (sym here) i; row = row_is i; term = one.term; value = one.value } in
-    let first_is : option_map said_first first ≡ option_map (λ (f : Told). f.said) (first_before before t) =
-    ap (option_map said_first) (firsts ∙ h.look_up t place at_it) ∙ kept-said (first_before before t) in
+    let first_is : option_map parsed_first first ≡ option_map (λ (f : Told). f.parsed) (first_before before t) =
+    ap (option_map parsed_first) (firsts ∙ h.look_up t place at_it) ∙ kept-parsed (first_before before t) in
     let kind_is : kind ≡ first_cause (causes nodes lists c (first_before before t) t) =
-    cause ∙ (ap (λ x. kind_of nodes lists x row pick.node (context_in pick) (option_map said_first first) s) (sym same_invoice)
-    ∙ (ap (λ x. kind_of nodes lists c.invoice x pick.node (context_in pick) (option_map said_first first) s) (sym same_row)
-    ∙ (ap (λ x. kind_of nodes lists c.invoice p.pick.row pick.node x (option_map said_first first) s) (sym stands)
-    ∙ (ap (λ (x : PlacedPick). kind_of nodes lists c.invoice p.pick.row x.node (context_of p) (option_map said_first first) s) (sym same_pick)
+    cause ∙ (ap (λ x. kind_of nodes lists x row pick.node (context_in pick) (option_map parsed_first first) s) (sym same_invoice)
+    ∙ (ap (λ x. kind_of nodes lists c.invoice x pick.node (context_in pick) (option_map parsed_first first) s) (sym same_row)
+    ∙ (ap (λ x. kind_of nodes lists c.invoice p.pick.row pick.node x (option_map parsed_first first) s) (sym stands)
+    ∙ (ap (λ (x : PlacedPick). kind_of nodes lists c.invoice p.pick.row x.node (context_of p) (option_map parsed_first first) s) (sym same_pick)
     ∙ (ap (λ x. kind_of nodes lists c.invoice p.pick.row p.pick.node (context_of p) x s) first_is
     ∙ causes-are nodes lists c p s (first_before before t)))))) in
     let fault_is : faults_at kind pick.node pick.row one.term ≡ fault_of nodes lists c (first_before before t) t =
@@ -106,11 +106,11 @@ kept-again (Some x) f back entries fresh e = (same_Some back f e, refl)
 pub tells-first : (nodes : List Node) (lists : Lists) (invoice : Option (List ℕ)) (row : Row) (pick : PlacedPick) (one : Kept) (context : Context) (listed : ℕ)
     (kind : Option BindKind) (old new : Entries) (was is : List Found → Type 0) → context ≡ context_in pick → Some listed ≡ row_of one.term context
     → None ≡ option_map (λ _. first_from context listed one) (kept_at (row_place listed context) old)
-    → kind ≡ kind_of nodes lists invoice row pick.node (context_in pick) None (said_of one)
+    → kind ≡ kind_of nodes lists invoice row pick.node (context_in pick) None (parsed_of one)
     → new ≡ put_entry old (row_place listed context) (first_from context listed one)
     → ((q : List ℕ) → kept_at q new ≡ kept_behind q old (row_place listed context)
     (first_from context listed one))
-    → Puts was is (faults_at kind pick.node pick.row one.term) → Tells nodes lists invoice pick row (said_of one ∷ []) old was new is
+    → Puts was is (faults_at kind pick.node pick.row one.term) → Tells nodes lists invoice pick row (parsed_of one ∷ []) old was new is
 tells-first nodes lists invoice row pick one context listed kind old new was is in_pick in_row none cause put looked fault =
     tells-one nodes lists invoice row pick one context listed kind None old new was is in_pick in_row
     (none-kept (λ _. first_from context listed one) (kept_at (row_place listed context) old) none)
@@ -123,23 +123,23 @@ pub tells-again : (nodes : List Node) (lists : Lists) (invoice : Option (List �
     → new ≡ put_entry old (row_place listed context) (first_from context listed one)
     → ((q : List ℕ) → kept_at q new ≡ kept_behind q old (row_place listed context)
     (first_from context listed one))
-    → Puts was is (faults_again nodes lists invoice pick row back new) → Tells nodes lists invoice pick row (said_of one ∷ []) old was new is
+    → Puts was is (faults_again nodes lists invoice pick row back new) → Tells nodes lists invoice pick row (parsed_of one ∷ []) old was new is
 tells-again nodes lists invoice row pick one context listed back old new was is in_pick in_row some put looked fault =
     let place : List ℕ = row_place listed context in
     let f : First = first_from context listed one in
     let w = kept-again (kept_at place old) f back (kept_at place old) (cond (is_eq (slice_cmp nat_cmp place place)) (Some f) (kept_at place old)) some in
     let same : faults_again nodes lists invoice pick row back new
-    ≡ faults_at (kind_of nodes lists invoice row pick.node (context_in pick) (option_map said_first (kept_at place old)) (said_of one))
+    ≡ faults_at (kind_of nodes lists invoice row pick.node (context_in pick) (option_map parsed_first (kept_at place old)) (parsed_of one))
     pick.node pick.row one.term =
     ap (λ b. faults_again nodes lists invoice pick row b new) w.0
-    ∙ ap (λ o. faults_at (kind_of nodes lists invoice row pick.node (context_in pick) (option_map said_first o) (said_of one)) pick.node pick.row one.term)
+    ∙ ap (λ o. faults_at (kind_of nodes lists invoice row pick.node (context_in pick) (option_map parsed_first o) (parsed_of one)) pick.node pick.row one.term)
     (looked place ∙ w.1) in
     tells-one nodes lists invoice row pick one context listed _ (kept_at place old) old new was is in_pick in_row refl refl put looked
     (puts-same was is _ _ same fault)
 
 -- ---- all of a pick
 
-pub tells-two : (nodes : List Node) (lists : Lists) (invoice : Option (List ℕ)) (pick : PlacedPick) (row : Row) (a b : Said) (old middle new : Entries)
+pub tells-two : (nodes : List Node) (lists : Lists) (invoice : Option (List ℕ)) (pick : PlacedPick) (row : Row) (a b : ParsedValue) (old middle new : Entries)
     (was middling is : List Found → Type 0)
     → Tells nodes lists invoice pick row (a ∷ []) old was middle middling → Tells nodes lists invoice pick row (b ∷ []) middle middling new is
     → Tells nodes lists invoice pick row (a ∷ (b ∷ [])) old was new is
@@ -148,26 +148,26 @@ tells-two nodes lists invoice pick row a b old middle new was middling is first 
     let two = second (before ++ told_at p a ∷ []) p c same_invoice same_pick same_row one in
     subst (λ l. Holds nodes lists c l new is) (append_assoc before (told_at p a ∷ []) (told_at p b ∷ [])) two
 
-said-by-row : (nodes : List Node) (p : Placed) (content : Content) (term : Term) → content ≡ contents.Term term
-    → (elim (term_in content) [ None ↦ [] | Some t ↦ said p.pick.row.form t (string_at nodes p.pick.node) ])
-    ≡ said p.pick.row.form term (string_at nodes p.pick.node)
-said-by-row nodes p content term e = ap (λ x. elim (term_in x) [ None ↦ [] | Some t ↦ said p.pick.row.form t (string_at nodes p.pick.node) ]) e
+parsed-by-row : (nodes : List Node) (p : Placed) (content : Content) (term : Term) → content ≡ contents.Term term
+    → (elim (term_in content) [ None ↦ [] | Some t ↦ parsed p.pick.row.form t (string_at nodes p.pick.node) ])
+    ≡ parsed p.pick.row.form term (string_at nodes p.pick.node)
+parsed-by-row nodes p content term e = ap (λ x. elim (term_in x) [ None ↦ [] | Some t ↦ parsed p.pick.row.form t (string_at nodes p.pick.node) ]) e
 
-pub tells-row : (nodes : List Node) (lists : Lists) (invoice : Option (List ℕ)) (pick : PlacedPick) (row : Row) (term : Term) (all : List Said)
+pub tells-row : (nodes : List Node) (lists : Lists) (invoice : Option (List ℕ)) (pick : PlacedPick) (row : Row) (term : Term) (all : List ParsedValue)
     (string : List ℕ) (old new : Entries) (was is : List Found → Type 0)
-    → row.content ≡ contents.Term term → all ≡ said row.form term string → string ≡ string_at nodes pick.node
+    → row.content ≡ contents.Term term → all ≡ parsed row.form term string → string ≡ string_at nodes pick.node
     → Tells nodes lists invoice pick row all old was new is → TellsPick nodes lists invoice pick row old was new is
-tells-row nodes lists invoice pick row term all string old new was is content sayings string_is step before p c same_invoice same_pick same_row h =
-    let all_is : all ≡ said_by nodes p =
-    sayings ∙ (ap (λ (x : Row). said x.form term string) (sym same_row)
-    ∙ (ap (said p.pick.row.form term) (string_is ∙ ap (λ (x : PlacedPick). string_at nodes x.node) (sym same_pick))
-    ∙ sym (said-by-row nodes p p.pick.row.content term (ap (λ (x : Row). x.content) same_row ∙ content)))) in
+tells-row nodes lists invoice pick row term all string old new was is content parsed_values string_is step before p c same_invoice same_pick same_row h =
+    let all_is : all ≡ parsed_by nodes p =
+    parsed_values ∙ (ap (λ (x : Row). parsed x.form term string) (sym same_row)
+    ∙ (ap (parsed p.pick.row.form term) (string_is ∙ ap (λ (x : PlacedPick). string_at nodes x.node) (sym same_pick))
+    ∙ sym (parsed-by-row nodes p p.pick.row.content term (ap (λ (x : Row). x.content) same_row ∙ content)))) in
     subst (λ l. Holds nodes lists c (before ++ map (told_at p) l) new is) all_is
     (step before p c same_invoice same_pick same_row h)
 
 no-term : (nodes : List Node) (p : Placed) (content : Content) (text : List ℕ) → content ≡ contents.Constant text
-    → ◌≡◌ {A = List Said} (elim (term_in content) [ None ↦ [] | Some t ↦ said p.pick.row.form t (string_at nodes p.pick.node) ]) []
-no-term nodes p content text e = ap (λ x. elim (term_in x) [ None ↦ [] | Some t ↦ said p.pick.row.form t (string_at nodes p.pick.node) ]) e
+    → ◌≡◌ {A = List ParsedValue} (elim (term_in content) [ None ↦ [] | Some t ↦ parsed p.pick.row.form t (string_at nodes p.pick.node) ]) []
+no-term nodes p content text e = ap (λ x. elim (term_in x) [ None ↦ [] | Some t ↦ parsed p.pick.row.form t (string_at nodes p.pick.node) ]) e
 
 pub tells-nothing : (nodes : List Node) (lists : Lists) (invoice : Option (List ℕ)) (pick : PlacedPick) (row : Row) (text : List ℕ) (entries : Entries)
     (was : List Found → Type 0)
@@ -185,51 +185,52 @@ tells-of nodes lists invoice pick rows row old new was is at step before p c sam
     step before p c same_invoice same_pick (same_Some _ _ (sym of_row ∙ (ap (λ (x : PlacedPick). row_numbered rows x.row) same_pick ∙ sym at))) h
 
 -- what a string says of the row's term is what the pick says
-pub sayings-placed : (nodes : List Node) (pick : PlacedPick) (row : Row) (term : Term) (all : List Said) (string : List ℕ)
-    → row.content ≡ contents.Term term → all ≡ said row.form term string → string ≡ string_at nodes pick.node
-    → ArePlaced (context_in pick) (said_by_row nodes pick row) → ArePlaced (context_in pick) all
-sayings-placed nodes pick row term all string content sayings string_is placed =
-    let same : said_by_row nodes pick row ≡ all =
-    ap (λ x. elim (term_in x) [ None ↦ [] | Some t ↦ said row.form t (string_at nodes pick.node) ]) content
-    ∙ sym (sayings ∙ ap (said row.form term) string_is) in
+pub parsed_values-placed : (nodes : List Node) (pick : PlacedPick) (row : Row) (term : Term) (all : List ParsedValue) (string : List ℕ)
+    → row.content ≡ contents.Term term → all ≡ parsed row.form term string → string ≡ string_at nodes pick.node
+    → ArePlaced (context_in pick) (parsed_by_row nodes pick row) → ArePlaced (context_in pick) all
+parsed_values-placed nodes pick row term all string content parsed_values string_is placed =
+    let same : parsed_by_row nodes pick row ≡ all =
+    ap (λ x. elim (term_in x) [ None ↦ [] | Some t ↦ parsed row.form t (string_at nodes pick.node) ]) content
+    ∙ sym (parsed_values ∙ ap (parsed row.form term) string_is) in
     subst (ArePlaced (context_in pick)) same placed
 
-one-placed : (context : Context) (all : List Said) (a : Said) (others : List Said) → ArePlaced context all → all ≡ a ∷ others
+one-placed : (context : Context) (all : List ParsedValue) (a : ParsedValue) (others : List ParsedValue) → ArePlaced context all → all ≡ a ∷ others
     → is_some (place_of a.term context) ≡ true
 one-placed context all a others h e =
-    All-head (λ (s : Said). is_some (place_of s.term context) ≡ true) a others (subst (ArePlaced context) e h)
+    All-head (λ (s : ParsedValue). is_some (place_of s.term context) ≡ true) a others (subst (ArePlaced context) e h)
 
-module _ (context : Context) (sayings : Sayings) (placed : ArePlaced context (all_said sayings)) where
-  pub alone-placed : (one : Kept) → sayings ≡ all.One one → is_some (place_of one.term context) ≡ true
-  alone-placed one e = one-placed context (all_said sayings) (said_of one) [] placed (ap all_said e)
+module _ (context : Context) (parsed_values : ParsedValues) (placed : ArePlaced context (all_parsed parsed_values)) where
+  pub alone-placed : (one : Kept) → parsed_values ≡ all.One one → is_some (place_of one.term context) ≡ true
+  alone-placed one e = one-placed context (all_parsed parsed_values) (parsed_of one) [] placed (ap all_parsed e)
 
-  pub first-placed : (one other : Kept) → sayings ≡ all.Two one other → is_some (place_of one.term context) ≡ true
-  first-placed one other e = one-placed context (all_said sayings) (said_of one) (said_of other ∷ []) placed (ap all_said e)
+  pub first-placed : (one other : Kept) → parsed_values ≡ all.Two one other → is_some (place_of one.term context) ≡ true
+  first-placed one other e = one-placed context (all_parsed parsed_values) (parsed_of one) (parsed_of other ∷ []) placed (ap all_parsed e)
 
-  pub second-placed : (one other : Kept) → sayings ≡ all.Two one other → is_some (place_of other.term context) ≡ true
+  pub second-placed : (one other : Kept) → parsed_values ≡ all.Two one other → is_some (place_of other.term context) ≡ true
   second-placed one other e =
-      one-placed context (said_of other ∷ []) (said_of other) []
-      (All-tail (λ (s : Said). is_some (place_of s.term context) ≡ true) (said_of one) (said_of other ∷ [])
-      (subst (ArePlaced context) (ap all_said e) placed)) refl
+      one-placed context (parsed_of other ∷ []) (parsed_of other) []
+      (All-tail (λ (s : ParsedValue). is_some (place_of s.term context) ≡ true) (parsed_of one) (parsed_of other ∷ [])
+      (subst (ArePlaced context) (ap all_parsed e) placed)) refl
 
 -- the same of a call's result
 module _ {X E : Type 0} (r : Result X E) (nodes : List Node) (lists : Lists) (invoice : Option (List ℕ)) (pick : PlacedPick) (row : Row) where
-  pub tells-same : (told all : List Said) (old new : Entries) (was is : List Found → Type 0) → told ≡ all
+  pub tells-same : (told all : List ParsedValue) (old new : Entries) (was is : List Found → Type 0) → told ≡ all
       → OnOk r (Tells nodes lists invoice pick row told old was new is)
       → OnOk r (Tells nodes lists invoice pick row all old was new is)
   tells-same told all old new was is e h = subst (λ l. OnOk r (Tells nodes lists invoice pick row l old was new is)) e h
 
-  pub tells-both : (a b : Said) (all : List Said) (old middle new : Entries) (was middling is : List Found → Type 0) → (a ∷ (b ∷ [])) ≡ all
+  pub tells-both : (a b : ParsedValue) (all : List ParsedValue) (old middle new : Entries) (was middling is : List Found → Type 0) → (a ∷ (b ∷ [])) ≡ all
       → Tells nodes lists invoice pick row (a ∷ []) old was middle middling
       → OnOk r (Tells nodes lists invoice pick row (b ∷ []) middle middling new is) → OnOk r (Tells nodes lists invoice pick row all old was new is)
   tells-both a b all old middle new was middling is e first h =
       tells-same (a ∷ (b ∷ [])) all old new was is e (on_ok_weaker r (λ k. tells-two nodes lists invoice pick row a b old middle new was middling is first k) h)
 
-  pub tells-by-row : (term : Term) (all : List Said) (string : List ℕ) (old new : Entries) (was is : List Found → Type 0) → row.content ≡ contents.Term term
-      → all ≡ said row.form term string → string ≡ string_at nodes pick.node
+  pub tells-by-row : (term : Term) (all : List ParsedValue) (string : List ℕ) (old new : Entries) (was is : List Found → Type 0) → row.content
+      ≡ contents.Term term
+      → all ≡ parsed row.form term string → string ≡ string_at nodes pick.node
       → OnOk r (Tells nodes lists invoice pick row all old was new is) → OnOk r (TellsPick nodes lists invoice pick row old was new is)
-  tells-by-row term all string old new was is content sayings string_is h =
-      on_ok_weaker r (λ k. tells-row nodes lists invoice pick row term all string old new was is content sayings string_is k) h
+  tells-by-row term all string old new was is content parsed_values string_is h =
+      on_ok_weaker r (λ k. tells-row nodes lists invoice pick row term all string old new was is content parsed_values string_is k) h
 
   pub tells-by-table : (rows : List Row) (old new : Entries) (was is : List Found → Type 0) → Some row ≡ row_numbered rows pick.row
       → OnOk r (TellsPick nodes lists invoice pick row old was new is) → OnOk r (TellsOf nodes lists invoice pick rows old was new is)

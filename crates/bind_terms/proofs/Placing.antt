@@ -7,12 +7,12 @@ use Rattle.term_table.specs.Places.{place_of}
 use Rattle.bind_rows.specs.declared.rows.Row.{Row}
 use Rattle.bind_meaning.specs.Kept.{kept_placed, all_kept_placed}
 use Rattle.bind_meaning.specs.Seats.{Placed, context_of}
-use Rattle.bind_meaning.specs.Values.{Said}
-use Rattle.bind_meaning.specs.Judging.{told_by, said_by}
+use Rattle.bind_meaning.specs.Values.{ParsedValue}
+use Rattle.bind_meaning.specs.Judging.{told_by, parsed_by}
 use Rattle.bind_meaning.specs.Terms.{told}
 use Rattle.reading_laws.proofs.ListLemmas.{each-unmap, each-of-all, all-of-each}
 use Rattle.reading_laws.proofs.EntryLemmas.{HasPlace}
-use Rattle.bind_terms.specs.Steps.{IsOfRow, ArePlaced, said_by_row, SaysPlaced, told_at}
+use Rattle.bind_terms.specs.Steps.{IsOfRow, ArePlaced, parsed_by_row, SaysPlaced, told_at}
 
 each-front : {X : Type 0} (P : X → Type 0) (xs ys : List X) → AllByRecursion P (xs ++ ys) → AllByRecursion P xs
 each-front P [] ys h = tt
@@ -22,17 +22,17 @@ each-back : {X : Type 0} (P : X → Type 0) (xs ys : List X) → AllByRecursion 
 each-back P [] ys h = h
 each-back P (x ∷ xs) ys h = each-back P xs ys h.1
 
-one-says : (nodes : List Node) (rows : List Row) (p : Placed) → IsOfRow rows p → AllByRecursion (λ s. HasPlace (told_at p s)) (said_by nodes p)
+one-says : (nodes : List Node) (rows : List Row) (p : Placed) → IsOfRow rows p → AllByRecursion (λ s. HasPlace (told_at p s)) (parsed_by nodes p)
     → SaysPlaced nodes rows (kept_placed p)
 one-says nodes rows p of_row h row e =
-    subst (λ r. ArePlaced (context_of p) (said_by_row nodes (kept_placed p) r)) (same_Some _ _ (sym of_row ∙ e))
-    (all-of-each (λ (s : Said). is_some (place_of s.term (context_of p)) ≡ true) (said_by nodes p) h)
+    subst (λ r. ArePlaced (context_of p) (parsed_by_row nodes (kept_placed p) r)) (same_Some _ _ (sym of_row ∙ e))
+    (all-of-each (λ (s : ParsedValue). is_some (place_of s.term (context_of p)) ≡ true) (parsed_by nodes p) h)
 
 each-says : (nodes : List Node) (rows : List Row) (ps : List Placed) → AllByRecursion (IsOfRow rows) ps → AllByRecursion HasPlace (told nodes ps)
     → AllByRecursion (SaysPlaced nodes rows) (all_kept_placed ps)
 each-says nodes rows [] of_rows h = tt
 each-says nodes rows (p ∷ ps) of_rows h = (
-  one-says nodes rows p of_rows.0 (each-unmap HasPlace (told_at p) (said_by nodes p) (each-front HasPlace (told_by nodes p) (told nodes ps) h)),
+  one-says nodes rows p of_rows.0 (each-unmap HasPlace (told_at p) (parsed_by nodes p) (each-front HasPlace (told_by nodes p) (told nodes ps) h)),
   each-says nodes rows ps of_rows.1 (each-back HasPlace (told_by nodes p) (told nodes ps) h),
 )
 

@@ -16,14 +16,14 @@ use Rattle.term_table.specs.declared.contexts.Seat.{Seat}
 use Rattle.term_table.specs.Contexts.{is_inside, outer_context}
 use Rattle.term_table.specs.Runs.{IsNested}
 use Rattle.node_arena.specs.Moves.{last_inside}
-use Rattle.inv_terms.specs.declared.lacks.Lack.{Lack}
+use Rattle.inv_terms.specs.declared.violations.ModelViolation.{ModelViolation}
 use Rattle.inv_terms.specs.Lacking.{all_missing}
 use Rattle.bind_meaning.specs.declared.picked.Seated.{Seated}
 use Rattle.bind_meaning.specs.declared.picked.PlacedPick.{PlacedPick}
 use Rattle.bind_meaning.specs.Kept.{all_kept_placed}
 use Rattle.bind_meaning.specs.Seats.{Placed, Room, whole, slot_of, each_once, rooms}
 use Rattle.bind_meaning.specs.Judging.{Found}
-use Rattle.bind_meaning.specs.Faults.{lacks_in}
+use Rattle.bind_meaning.specs.Faults.{violations_in}
 use Rattle.bind_terms.specs.declared.firsts.First.{First}
 use Rattle.bind_terms.specs.Faults.{Puts}
 use Rattle.bind_terms.specs.Telling.{seat_of_first, context_in}
@@ -35,65 +35,71 @@ use Rattle.bind_terms.proofs.Once.{keys-more, all-rooms}
 
 -- ---- one context
 
-module _ (nodes : List Node) (firsts run : List First) (context : Context) (element : ℕ) (lacks : List Lack)
+module _ (nodes : List Node) (firsts run : List First) (context : Context) (element : ℕ) (violations : List ModelViolation)
     (run_is : run ≡ filter (λ item. is_inside context (seat_of_first item).context) firsts)
-    (lacks_are : lacks ≡ all_missing (map seat_of_first run) context) where
-  in-room : lacks ≡ all_missing (filter (λ (seat : Seat). is_inside context seat.context) (map seat_of_first firsts)) context
+    (lacks_are : violations ≡ all_missing (map seat_of_first run) context) where
+  in-room : violations ≡ all_missing (filter (λ (seat : Seat). is_inside context seat.context) (map seat_of_first firsts)) context
   in-room = lacks_are ∙ ap (λ l. all_missing l context) (ap (map seat_of_first) run_is
       ∙ map-filter seat_of_first (λ (seat : Seat). is_inside context seat.context) firsts)
 
-  found-in : map (missing_found context element (last_inside nodes element)) lacks ≡ lacks_in nodes (map seat_of_first firsts) (room_at context element)
+  found-in : map (missing_found context element (last_inside nodes element)) violations ≡ violations_in nodes (map seat_of_first firsts) (room_at context
+      element)
   found-in = ap (map (missing_found context element (last_inside nodes element))) in-room
 
-  pub lack-none : (given : List Found → Type 0) → lacks ≡ [] → Puts given given (lacks_in nodes (map seat_of_first firsts) (room_at context element))
-  lack-none given none = puts-same given given _ _ (ap (map (missing_found context element (last_inside nodes element))) (sym none) ∙ found-in)
+  pub violation-none : (given : List Found → Type 0) → violations ≡ [] → Puts given given (violations_in nodes (map seat_of_first firsts) (room_at context
+      element))
+  violation-none given none = puts-same given given _ _ (ap (map (missing_found context element (last_inside nodes element))) (sym none) ∙ found-in)
       (puts-none given)
 
-  pub lack-some : (was given : List Found → Type 0) (last : ℕ) → last ≡ last_inside nodes element
-      → Puts was given (map (missing_found context element last) lacks)
-      → Puts was given (lacks_in nodes (map seat_of_first firsts) (room_at context element))
-  lack-some was given last last_is put = puts-same was given _ _ (ap (λ n. map (missing_found context element n) lacks) last_is ∙ found-in) put
+  pub violation-some : (was given : List Found → Type 0) (last : ℕ) → last ≡ last_inside nodes element
+      → Puts was given (map (missing_found context element last) violations)
+      → Puts was given (violations_in nodes (map seat_of_first firsts) (room_at context element))
+  violation-some was given last last_is put = puts-same was given _ _ (ap (λ n. map (missing_found context element n) violations) last_is ∙ found-in) put
 
-pub none-left : (lacks : List Lack) → (length lacks == 0) ≡ true → lacks ≡ []
+pub none-left : (violations : List ModelViolation) → (length violations == 0) ≡ true → violations ≡ []
 none-left [] e = refl
-none-left (lack ∷ lacks) e = let h = eqb-true (length (lack ∷ lacks)) 0 e in absurd (omega arith)
+none-left (violation ∷ violations) e = let h = eqb-true (length (violation ∷ violations)) 0 e in absurd (omega arith)
 
 -- the lacks up to one were given
-pub record Lacked (context : Context) (element last : ℕ) (lacks : List Lack) (first : List Found → Type 0) (count : ℕ)
+pub record Lacked (context : Context) (element last : ℕ) (violations : List ModelViolation) (first : List Found → Type 0) (count : ℕ)
     (given : List Found → Type 0) : Type 0 where
-  pub puts : Puts first given (map (missing_found context element last) (take count lacks))
+  pub puts : Puts first given (map (missing_found context element last) (take count violations))
 
-pub lacked-none : (context : Context) (element last : ℕ) (lacks : List Lack) (first : List Found → Type 0) → Lacked context element last lacks first 0 first
-lacked-none context element last lacks first = record { puts = puts-none first }
+pub lacked-none : (context : Context) (element last : ℕ) (violations : List ModelViolation) (first : List Found → Type 0)
+    → Lacked context element last violations first 0 first
+lacked-none context element last violations first = record { puts = puts-none first }
 
-map-append : (f : Lack → Found) (xs ys : List Lack) → map f (xs ++ ys) ≡ map f xs ++ map f ys
+map-append : (f : ModelViolation → Found) (xs ys : List ModelViolation) → map f (xs ++ ys) ≡ map f xs ++ map f ys
 map-append f [] ys = refl
 map-append f (x ∷ xs) ys = ap (λ l. f x ∷ l) (map-append f xs ys)
 
-pub lacked-more : (context : Context) (element last : ℕ) (lacks : List Lack) (first : List Found → Type 0) (count : ℕ) (was given : List Found → Type 0)
-    (lack : Lack) (one : Found)
-    → count < length lacks → lack ≡ get_or lacks count lack → one ≡ missing_found context element last lack → Lacked context element last lacks first count was
+pub lacked-more : (context : Context) (element last : ℕ) (violations : List ModelViolation) (first : List Found → Type 0) (count : ℕ) (was given : List Found
+    → Type 0)
+    (violation : ModelViolation) (one : Found)
+    → count < length violations → violation ≡ get_or violations count violation → one ≡ missing_found context element last violation
+        → Lacked context element last violations first count was
     → Puts was given (one ∷ [])
-    → Lacked context element last lacks first (count + 1) given
-lacked-more context element last lacks first count was given lack one below at one_is before put = record {
+    → Lacked context element last violations first (count + 1) given
+lacked-more context element last violations first count was given violation one below at one_is before put = record {
   puts = puts-same first given _ _
-      (sym (ap (map (missing_found context element last)) (take_more lacks count lack below ∙ ap (λ x. take count lacks ++ x ∷ []) (sym at))
-      ∙ (map-append (missing_found context element last) (take count lacks) (lack ∷ [])
-      ∙ ap (λ x. map (missing_found context element last) (take count lacks) ++ x ∷ []) (sym one_is))))
-      (puts-both first was given (map (missing_found context element last) (take count lacks)) (one ∷ []) before.puts put);
+      (sym (ap (map (missing_found context element last)) (take_more violations count violation below ∙ ap (λ x. take count violations ++ x ∷ []) (sym at))
+      ∙ (map-append (missing_found context element last) (take count violations) (violation ∷ [])
+      ∙ ap (λ x. map (missing_found context element last) (take count violations) ++ x ∷ []) (sym one_is))))
+      (puts-both first was given (map (missing_found context element last) (take count violations)) (one ∷ []) before.puts put);
 }
 
-all-lacks : (xs : List Lack) (n : ℕ) → length xs ≤ n → take n xs ≡ xs
-all-lacks [] zero h = refl
-all-lacks [] (suc n) h = refl
-all-lacks (x ∷ xs) zero h = absurd (omega arith)
-all-lacks (x ∷ xs) (suc n) h = ap (λ l. x ∷ l) (all-lacks xs n (omega arith))
+all-violations : (xs : List ModelViolation) (n : ℕ) → length xs ≤ n → take n xs ≡ xs
+all-violations [] zero h = refl
+all-violations [] (suc n) h = refl
+all-violations (x ∷ xs) zero h = absurd (omega arith)
+all-violations (x ∷ xs) (suc n) h = ap (λ l. x ∷ l) (all-violations xs n (omega arith))
 
-pub lacked-all : (context : Context) (element last : ℕ) (lacks : List Lack) (first : List Found → Type 0) (count : ℕ) (given : List Found → Type 0)
-    → length lacks ≤ count
-    → Lacked context element last lacks first count given → Puts first given (map (missing_found context element last) lacks)
-lacked-all context element last lacks first count given past h =
-    puts-same first given _ _ (ap (map (missing_found context element last)) (all-lacks lacks count past)) h.puts
+pub lacked-all : (context : Context) (element last : ℕ) (violations : List ModelViolation) (first : List Found → Type 0) (count : ℕ) (given : List Found
+    → Type 0)
+    → length violations ≤ count
+    → Lacked context element last violations first count given → Puts first given (map (missing_found context element last) violations)
+lacked-all context element last violations first count given past h =
+    puts-same first given _ _ (ap (map (missing_found context element last)) (all-violations violations count past)) h.puts
 
 -- ---- nested contexts
 
@@ -163,14 +169,14 @@ module _ (nodes : List Node) (seats : List Seat) (context : Context) (seat : Opt
     (added : Bool)
     (told : added ≡ not (has_key keys (room_key context))) where
   pub room-new : (was given : List Found → Type 0) → added ≡ true → more ≡ insert_key (slice_cmp nat_cmp) keys (room_key context)
-      → Puts was given (lacks_in nodes seats (room_at context s.element)) → (before : List Room) → AreKeysOf before keys
+      → Puts was given (violations_in nodes seats (room_at context s.element)) → (before : List Room) → AreKeysOf before keys
       → SeesMore nodes seats before context seat more was given
   room-new was given is_added keys_are fault before known =
       let fresh = not-false added (has_key keys (room_key context)) told is_added in
       subst (λ x. SeesMore nodes seats before context x more was given) (sym is) (record {
         keys_are = keys-more before keys more (room_at context s.element) known (key-added keys more (room_key context) fresh keys_are);
-        puts = puts-same was given _ _ (sym (append-nil (lacks_in nodes seats (room_at context s.element)))
-            ∙ ap (λ b. flat_map (lacks_in nodes seats) (once_if b (room_at context s.element))) (sym fresh ∙ known context)) fault;
+        puts = puts-same was given _ _ (sym (append-nil (violations_in nodes seats (room_at context s.element)))
+            ∙ ap (λ b. flat_map (violations_in nodes seats) (once_if b (room_at context s.element))) (sym fresh ∙ known context)) fault;
       })
 
   pub room-old : (was : List Found → Type 0) → added ≡ false → more ≡ keys → (before : List Room) → AreKeysOf before keys
@@ -179,7 +185,7 @@ module _ (nodes : List Node) (seats : List Seat) (context : Context) (seat : Opt
       let there = not-true added (has_key keys (room_key context)) told not_added in
       subst (λ x. SeesMore nodes seats before context x more was was) (sym is) (record {
         keys_are = keys-more before keys more (room_at context s.element) known (key-there keys more (room_key context) there keys_are);
-        puts = puts-same was was _ _ (ap (λ b. flat_map (lacks_in nodes seats) (once_if b (room_at context s.element))) (sym there ∙ known context))
+        puts = puts-same was was _ _ (ap (λ b. flat_map (violations_in nodes seats) (once_if b (room_at context s.element))) (sym there ∙ known context))
             (puts-none was);
       })
 
@@ -211,9 +217,9 @@ all (x ∷ xs) (suc n) h = ap (λ l. x ∷ l) (all xs n (omega arith))
 
 pub seen-all : (nodes : List Node) (seats : List Seat) (was first : List Found → Type 0) (picks : List PlacedPick) (count : ℕ) (keys : List (List ℕ))
     (given : List Found → Type 0)
-    → length picks ≤ count → Puts was first (lacks_in nodes seats whole) → Seen nodes seats first (flat_map pick_rooms (take count picks)) keys given
-    → (ps : List Placed) → picks ≡ all_kept_placed ps → Puts was given (flat_map (lacks_in nodes seats) (rooms ps))
+    → length picks ≤ count → Puts was first (violations_in nodes seats whole) → Seen nodes seats first (flat_map pick_rooms (take count picks)) keys given
+    → (ps : List Placed) → picks ≡ all_kept_placed ps → Puts was given (flat_map (violations_in nodes seats) (rooms ps))
 seen-all nodes seats was first picks count keys given past whole_puts seen ps e =
-    puts-both was first given (lacks_in nodes seats whole) _ whole_puts
-    (puts-same first given _ _ (ap (λ l. flat_map (lacks_in nodes seats) (each_once l))
+    puts-both was first given (violations_in nodes seats whole) _ whole_puts
+    (puts-same first given _ _ (ap (λ l. flat_map (violations_in nodes seats) (each_once l))
     (ap (flat_map pick_rooms) (all picks count past ∙ e) ∙ sym (all-rooms ps))) seen.puts)

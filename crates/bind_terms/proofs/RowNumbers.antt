@@ -4,7 +4,7 @@ use Rattle.std.proofs.lemmas.List.Quantifiers.{position-Some}
 use Rattle.term_table.specs.declared.groups.Group.TheVariants as groups
 use Rattle.term_table.specs.declared.terms.Term.{Term}
 use Rattle.term_table.specs.declared.terms.TermRow.{TermRow}
-use Rattle.term_table.specs.declared.terms.Letter.TheVariants as letters
+use Rattle.term_table.specs.declared.terms.DataType.TheVariants as data_types
 use Rattle.term_table.specs.declared.terms.Mark.TheVariants as marks
 use Rattle.term_table.specs.declared.contexts.Context.{Context}
 use Rattle.term_table.specs.Contexts.{slot_group}
@@ -13,7 +13,7 @@ use Rattle.term_table.specs.Rows.{is_row_in, row_of}
 use Rattle.std.specs.Prelude.{None}
 
 any_row : TermRow
-any_row = record { term = record { number = 0; part = 0 }; group = groups.Root; letter = letters.T; mark = marks.Optional; list = None }
+any_row = record { term = record { number = 0; part = 0 }; group = groups.Root; data_type = data_types.T; mark = marks.Optional; list = None }
 
 -- how many rows there are: the terms, and those that users may add
 rows-are : length listing_rows ≡ 379

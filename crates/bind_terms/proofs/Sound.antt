@@ -20,7 +20,7 @@ use Rattle.bind_meaning.specs.declared.picked.Seated.{Seated}
 use Rattle.bind_meaning.specs.Names.{has_element_name, has_plain_name}
 use Rattle.bind_meaning.specs.Elements.{number, both, children_named, attributes_named, is_blank_at, are_met, met}
 use Rattle.bind_meaning.specs.Picks.{Pick, ways, last_of, filled, leaves_of, picks_of_way, nodes_picked, Numbered, numbered, rows_where, all_picked}
-use Rattle.bind_meaning.specs.Picks.{without_fillers, is_filler, carrier, carrier_in, has_any_term}
+use Rattle.bind_meaning.specs.Picks.{without_placeholders, is_placeholder, carrier, carrier_in, has_any_term}
 use Rattle.bind_meaning.specs.Currencies.{Currencies, is_in_its_currency, in_their_currencies}
 use Rattle.bind_meaning.specs.Kept.{kept, kept_placed, all_kept, all_kept_placed}
 use Rattle.bind_meaning.specs.Seats.{placed, outer_at, inner_at, inner_within}
@@ -124,9 +124,9 @@ module _ (nodes : List Node) (order : AreInOrder nodes) (some : 0 < length nodes
     pub terms-sound : (c : Currencies) → All IsSound (term_picks nodes c rows)
     terms-sound c =
         let all = all_picked nodes (rows_where has_any_term rows) in
-        ordered-sound (in_their_currencies nodes c (without_fillers nodes all))
-        (All-filter (is_in_its_currency nodes c) IsSound (without_fillers nodes all)
-        (All-filter (λ pick. not (is_filler nodes all pick)) IsSound all (picked-sound has_any_term)))
+        ordered-sound (in_their_currencies nodes c (without_placeholders nodes all))
+        (All-filter (is_in_its_currency nodes c) IsSound (without_placeholders nodes all)
+        (All-filter (λ pick. not (is_placeholder nodes all pick)) IsSound all (picked-sound has_any_term)))
 
     pub rows-sound : (test : Row → Bool) → All IsSound (in_order nodes (all_picked nodes (rows_where test rows)))
     rows-sound test = ordered-sound (all_picked nodes (rows_where test rows)) (picked-sound test)

@@ -13,7 +13,7 @@ use Rattle.code_lists.specs.CodeFiles.{Lists}
 use Rattle.term_table.specs.declared.terms.Term.{Term}
 use Rattle.term_table.specs.declared.contexts.Seat.{Seat}
 use Rattle.term_table.specs.Contexts.{same_context, outer_context}
-use Rattle.inv_terms.specs.declared.lacks.Lack.{Lack}
+use Rattle.inv_terms.specs.declared.violations.ModelViolation.{ModelViolation}
 use Rattle.inv_terms.specs.Lacking.{all_missing}
 use Rattle.node_arena.specs.Document.{Document, AreNumbered}
 use Rattle.node_arena.specs.Moves.{tree_nodes}
@@ -26,17 +26,18 @@ use Rattle.bind_meaning.specs.declared.fault.BindFault.{BindFault}
 use Rattle.bind_meaning.specs.declared.fault.BindKind.{BindKind}
 use Rattle.bind_meaning.specs.declared.fault.BindKind.TheVariants as kinds
 use Rattle.bind_meaning.specs.declared.picked.Seated.{Seated}
-use Rattle.inv_terms.specs.declared.lacks.Name.TheVariants as names
+use Rattle.inv_terms.specs.declared.violations.Name.TheVariants as names
 use Rattle.bind_meaning.specs.Elements.{string_at, is_one_of}
 use Rattle.inv_terms.specs.Values.{trimmed}
 use Rattle.bind_meaning.specs.Picks.{Pick, has_any_term}
 use Rattle.bind_meaning.specs.Currencies.{Currencies, currencies}
 use Rattle.bind_meaning.specs.Kept.{kept_placed}
 use Rattle.bind_meaning.specs.Seats.{Placed, Room, whole, outer_room, inner_room, each_once, rooms, context_of}
-use Rattle.bind_meaning.specs.Values.{Said}
-use Rattle.bind_meaning.specs.Judging.{Found, found, Told, told_by, said_by, first_before, Cause, first_cause, causes, place_at, fault_of, faults_behind, words}
+use Rattle.bind_meaning.specs.Values.{ParsedValue}
+use Rattle.bind_meaning.specs.Judging.{Found, found, Told, told_by, parsed_by, first_before, Cause, first_cause, causes, place_at, fault_of, faults_behind}
+use Rattle.bind_meaning.specs.Judging.{words}
 use Rattle.bind_meaning.specs.Judging.{wrong_word, seat_of, earlier}
-use Rattle.bind_meaning.specs.Faults.{lack_found, lacks_in, every_fault_with, spot, put_fault, put_faults, in_fault_order, faults_in}
+use Rattle.bind_meaning.specs.Faults.{violation_found, violations_in, every_fault_with, spot, put_fault, put_faults, in_fault_order, faults_in}
 use Rattle.term_table.specs.Contexts.{is_inside}
 use Rattle.bind_meaning.specs.Terms.{term_picks, constant_picks, place_all, told, terms_of}
 use Rattle.bind_terms.specs.Steps.{IsWithin}
@@ -97,9 +98,9 @@ module _ (count : ℕ) where
   fault-at nodes lists c before t p = go (first_cause (causes nodes lists c before t)) (no-memory nodes lists c before t)
     where
       go : (o : Option BindKind) → ((kind : BindKind) → o ≡ Some kind → IsNoMemory kind)
-          → All is_at (elim o [ None ↦ [] | Some kind ↦ found (place_at t.placed.pick kind) kind (names.Term t.said.term) t.placed.pick.node ∷ [] ])
+          → All is_at (elim o [ None ↦ [] | Some kind ↦ found (place_at t.placed.pick kind) kind (names.Term t.parsed.term) t.placed.pick.node ∷ [] ])
       go None h = All-nil is_at
-      go (Some kind) h = All-cons is_at (found (place_at t.placed.pick kind) kind (names.Term t.said.term) t.placed.pick.node) [] (p, h kind refl)
+      go (Some kind) h = All-cons is_at (found (place_at t.placed.pick kind) kind (names.Term t.parsed.term) t.placed.pick.node) [] (p, h kind refl)
           (All-nil is_at)
 
   faults-at : (nodes : List Node) (lists : Lists) (c : Currencies) (before ts : List Told) → All is_told_at ts
@@ -113,9 +114,9 @@ module _ (count : ℕ) where
   told-at : (nodes : List Node) (ps : List Placed) → All (λ (p : Placed). p.pick.node < count) ps → All is_told_at (told nodes ps)
   told-at nodes ps all =
       all-flat_map is_told_at (λ (p : Placed). p.pick.node < count) (told_by nodes)
-      (λ p h. All-map is_told_at (λ (s : Said). record { placed = p; said = s }) (said_by nodes p) (all-so p h (said_by nodes p))) ps all
+      (λ p h. All-map is_told_at (λ (s : ParsedValue). record { placed = p; parsed = s }) (parsed_by nodes p) (all-so p h (parsed_by nodes p))) ps all
     where
-      all-so : (p : Placed) → p.pick.node < count → (ss : List Said) → All (λ s. is_told_at (record { placed = p; said = s })) ss
+      all-so : (p : Placed) → p.pick.node < count → (ss : List ParsedValue) → All (λ s. is_told_at (record { placed = p; parsed = s })) ss
       all-so p h ss k d = λ _. h
 
   wrong-at : (nodes : List Node) (pick : Pick) → pick.node < count → All is_at (wrong_word nodes pick)
@@ -145,12 +146,12 @@ module _ (count : ℕ) where
   abbrev is_room_at : Room → Type 0
   is_room_at room = room.element < count
 
-  lacks-at : (nodes : List Node) (seats : List Seat) (room : Room) → is_room_at room → All is_at (lacks_in nodes seats room)
-  lacks-at nodes seats room p = All-map is_at (lack_found nodes room) (all_missing
+  violations-at : (nodes : List Node) (seats : List Seat) (room : Room) → is_room_at room → All is_at (violations_in nodes seats room)
+  violations-at nodes seats room p = All-map is_at (violation_found nodes room) (all_missing
       (filter (λ (seat : Seat). is_inside room.context seat.context) seats) room.context) (each _)
     where
-      each : (lacks : List Lack) → All (λ l. is_at (lack_found nodes room l)) lacks
-      each lacks k d = λ _. (p, missing)
+      each : (violations : List ModelViolation) → All (λ l. is_at (violation_found nodes room l)) violations
+      each violations k d = λ _. (p, missing)
 
   each_once-at : (rs : List Room) → All is_room_at rs → All is_room_at (each_once rs)
   each_once-at [] all = All-nil is_room_at
@@ -230,7 +231,8 @@ module _ (nodes : List Node) (order : AreInOrder nodes) (some : 1 < length nodes
       (all-flat_map (is_at count) (λ (pick : Pick). pick.node < count) (wrong_word nodes) (wrong-at count nodes) (constant_picks nodes rows)
       (All-weaker (IsSound nodes order few rows) (λ (pick : Pick). pick.node < count) (λ pick h. h.node) (constant_picks nodes rows)
       (unordered-sound nodes order few rows (λ (row : Row). not (has_any_term row)))))
-      (all-flat_map (is_at count) (is_room_at count) (lacks_in nodes (map seat_of (told nodes ps))) (lacks-at count nodes (map seat_of (told nodes ps)))
+      (all-flat_map (is_at count) (is_room_at count) (violations_in nodes (map seat_of (told nodes ps))) (violations-at count nodes (map seat_of (told nodes
+          ps)))
       (rooms ps) (rooms-at count ps some within)))
 
   -- Each of all faults stands at a node, and none is want of memory.

@@ -3,9 +3,9 @@ pub mod Faults
 pub mod Passes
 pub mod Reading
 pub mod Rooms
-pub mod Scenes
+pub mod Inputs
 pub mod Steps
 pub mod Telling
 pub mod Notes
-pub mod Sayings
+pub mod ParsedValues
 pub mod Kinds

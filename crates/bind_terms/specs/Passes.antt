@@ -6,7 +6,7 @@ use Rattle.bind_rows.specs.declared.rows.Row.{Row}
 use Rattle.bind_meaning.specs.Currencies.{currencies}
 use Rattle.bind_meaning.specs.Seats.{rooms}
 use Rattle.bind_meaning.specs.Judging.{Found, Told, wrong_word, faults_behind, seat_of}
-use Rattle.bind_meaning.specs.Faults.{lacks_in}
+use Rattle.bind_meaning.specs.Faults.{violations_in}
 use Rattle.bind_meaning.specs.Terms.{in_order, told, entries}
 use Rattle.bind_terms.specs.declared.firsts.First.{First}
 use Rattle.bind_terms.specs.declared.judging.Verdict.{Verdict}
@@ -23,15 +23,15 @@ all_told nodes rows = told nodes (term_places nodes rows)
 abbrev pub words_found : List Node → List Row → List Found
 words_found nodes rows = flat_map (wrong_word nodes) (in_order nodes (indicator_picks nodes rows))
 
-abbrev pub lacks_found : List Node → List Row → List Found
-lacks_found nodes rows = flat_map (lacks_in nodes (map seat_of (all_told nodes rows))) (rooms (term_places nodes rows))
+abbrev pub violations_found : List Node → List Row → List Found
+violations_found nodes rows = flat_map (violations_in nodes (map seat_of (all_told nodes rows))) (rooms (term_places nodes rows))
 
 abbrev pub found_at_picks : List Node → Lists → List Row → List Found
 found_at_picks nodes lists rows = faults_behind nodes lists (currencies nodes rows) [] (all_told nodes rows)
 
 -- all faults, as they are found one after another
 abbrev pub all_found : List Node → Lists → List Row → List Found
-all_found nodes lists rows = (found_at_picks nodes lists rows ++ words_found nodes rows) ++ lacks_found nodes rows
+all_found nodes lists rows = (found_at_picks nodes lists rows ++ words_found nodes rows) ++ violations_found nodes rows
 
 -- The entries are what the picks say, and their faults and those of the indicators were given.
 abbrev pub HasTold : List Node → Lists → List Row → Entries → (List Found → Type 0) → Type 0

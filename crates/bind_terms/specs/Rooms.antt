@@ -9,21 +9,21 @@ use Rattle.term_table.specs.declared.contexts.Context.{Context}
 use Rattle.term_table.specs.declared.contexts.Seat.{Seat}
 use Rattle.term_table.specs.Contexts.{same_context, outer_context}
 use Rattle.term_table.specs.Places.{place}
-use Rattle.inv_terms.specs.declared.lacks.Lack.{Lack}
+use Rattle.inv_terms.specs.declared.violations.ModelViolation.{ModelViolation}
 use Rattle.bind_meaning.specs.declared.fault.BindKind.TheVariants as kinds
 use Rattle.bind_meaning.specs.declared.picked.Seated.{Seated}
 use Rattle.bind_meaning.specs.declared.picked.PlacedPick.{PlacedPick}
 use Rattle.bind_meaning.specs.Seats.{Room, each_once}
 use Rattle.bind_meaning.specs.Judging.{Found, found, depth, name_of}
-use Rattle.bind_meaning.specs.Faults.{lacks_in}
+use Rattle.bind_meaning.specs.Faults.{violations_in}
 use Rattle.bind_terms.specs.Faults.{Puts}
 use Rattle.bind_terms.specs.Telling.{context_in}
 
 abbrev pub room_at : Context → ℕ → Room
 room_at context element = record { context = context; element = element }
 
-abbrev pub missing_found : Context → ℕ → ℕ → Lack → Found
-missing_found context element last lack = found (last ∷ (1 ∷ ((2 - depth context) ∷ lack.place))) kinds.Missing (name_of lack.fault) element
+abbrev pub missing_found : Context → ℕ → ℕ → ModelViolation → Found
+missing_found context element last violation = found (last ∷ (1 ∷ ((2 - depth context) ∷ violation.place))) kinds.Missing (name_of violation.fault) element
 
 -- a place of the context among contexts
 abbrev pub room_key : Context → List ℕ
@@ -64,13 +64,13 @@ unseen before context seat = elim seat [
 pub record SeesMore (nodes : List Node) (seats : List Seat) (before : List Room) (context : Context) (seat : Option Seated) (keys : List (List ℕ))
     (was given : List Found → Type 0) : Type 0 where
   pub keys_are : AreKeysOf (before ++ rooms_at context seat) keys
-  pub puts : Puts was given (flat_map (lacks_in nodes seats) (unseen before context seat))
+  pub puts : Puts was given (flat_map (violations_in nodes seats) (unseen before context seat))
 
 -- The keys are those of the rooms so far, and what receives faults was given what is missing in each room once, behind those before.
 pub record Seen (nodes : List Node) (seats : List Seat) (first : List Found → Type 0) (before : List Room) (keys : List (List ℕ))
     (given : List Found → Type 0) : Type 0 where
   pub keys_are : AreKeysOf before keys
-  pub puts : Puts first given (flat_map (lacks_in nodes seats) (each_once before))
+  pub puts : Puts first given (flat_map (violations_in nodes seats) (each_once before))
 
 -- ---- one pick behind another
 
@@ -81,7 +81,7 @@ pub record WereSeen (before : List Room) (last : Context) : Type 0 where
 
 -- what received faults, with those of the rooms before
 abbrev pub behind_rooms : List Node → List Seat → List Room → (List Found → Type 0) → List Found → Type 0
-behind_rooms nodes seats before was fs = was (fs ++ flat_map (lacks_in nodes seats) (each_once before))
+behind_rooms nodes seats before was fs = was (fs ++ flat_map (violations_in nodes seats) (each_once before))
 
 -- Behind whatever was seen before, with the rooms of the last pick, the rooms of this one are seen.
 abbrev pub SeesPick : List Node → List Seat → PlacedPick → Context → List (List ℕ) → List (List ℕ) → (List Found → Type 0) → (List Found → Type 0) → Type 0

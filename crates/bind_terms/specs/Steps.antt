@@ -6,7 +6,7 @@ use Rattle.std.specs.Cmp.Lexicographic.{slice_cmp}
 use Rattle.term_table.specs.declared.terms.Term.{Term}
 use Rattle.term_table.specs.declared.contexts.Context.{Context}
 use Rattle.term_table.specs.Places.{place_of}
-use Rattle.inv_terms.specs.declared.lacks.Name.TheVariants as names
+use Rattle.inv_terms.specs.declared.violations.Name.TheVariants as names
 use Rattle.bind_rows.specs.declared.rows.Row.{Row}
 use Rattle.bind_meaning.specs.declared.fault.BindKind.{BindKind}
 use Rattle.bind_meaning.specs.declared.picked.Seated.{Seated}
@@ -14,7 +14,7 @@ use Rattle.bind_meaning.specs.declared.picked.PlacedPick.{PlacedPick}
 use Rattle.bind_meaning.specs.Elements.{string_at}
 use Rattle.bind_meaning.specs.Picks.{Pick, term_in}
 use Rattle.bind_meaning.specs.Seats.{Placed}
-use Rattle.bind_meaning.specs.Values.{Said, said}
+use Rattle.bind_meaning.specs.Values.{ParsedValue, parsed}
 use Rattle.bind_meaning.specs.Currencies.{Currencies}
 use Rattle.bind_meaning.specs.Kept.{kept_placed, all_kept_placed}
 use Rattle.bind_meaning.specs.Judging.{Found, found, rank, Told, told_by}
@@ -24,7 +24,7 @@ use Rattle.ordered_map.specs.Entries.{entries_behind, value_behind}
 use Rattle.code_lists.specs.CodeFiles.{Lists}
 use Rattle.bind_terms.specs.declared.firsts.First.{First}
 use Rattle.bind_terms.specs.Kinds.{kind_of}
-use Rattle.bind_terms.specs.Telling.{said_first, place_of_first, context_in, Entries, kept_at, Holds}
+use Rattle.bind_terms.specs.Telling.{parsed_first, place_of_first, context_in, Entries, kept_at, Holds}
 
 -- the row of a number, from 1
 abbrev pub row_numbered : List Row → ℕ → Option Row
@@ -54,19 +54,19 @@ pub record IsWithin (count : ℕ) (pick : PlacedPick) : Type 0 where
   pub nested : (is_some pick.outer || is_none pick.inner) ≡ true
 
 -- Each value that is said has a term with a place in the context.
-abbrev pub ArePlaced : Context → List Said → Type 0
-ArePlaced context all = All (λ (s : Said). is_some (place_of s.term context) ≡ true) all
+abbrev pub ArePlaced : Context → List ParsedValue → Type 0
+ArePlaced context all = All (λ (s : ParsedValue). is_some (place_of s.term context) ≡ true) all
 
 -- what a pick says by its row
-abbrev pub said_by_row : List Node → PlacedPick → Row → List Said
-said_by_row nodes pick row = elim (term_in row.content) [ None ↦ [] | Some term ↦ said row.form term (string_at nodes pick.node) ]
+abbrev pub parsed_by_row : List Node → PlacedPick → Row → List ParsedValue
+parsed_by_row nodes pick row = elim (term_in row.content) [ None ↦ [] | Some term ↦ parsed row.form term (string_at nodes pick.node) ]
 
 -- the same by its table
 abbrev pub SaysPlaced : List Node → List Row → PlacedPick → Type 0
-SaysPlaced nodes rows pick = (row : Row) → row_numbered rows pick.row ≡ Some row → ArePlaced (context_in pick) (said_by_row nodes pick row)
+SaysPlaced nodes rows pick = (row : Row) → row_numbered rows pick.row ≡ Some row → ArePlaced (context_in pick) (parsed_by_row nodes pick row)
 
-abbrev pub told_at : Placed → Said → Told
-told_at p said = record { placed = p; said = said }
+abbrev pub told_at : Placed → ParsedValue → Told
+told_at p parsed = record { placed = p; parsed = parsed }
 
 -- the entries with one more, where none of its place is among them
 abbrev pub put_entry : Entries → List ℕ → First → Entries
@@ -85,17 +85,17 @@ faults_at kind node row term = elim kind [ None ↦ [] | Some k ↦ fault_at k n
 -- the faults of what is said where something of its place was told before
 abbrev pub faults_again : List Node → Lists → Option (List ℕ) → PlacedPick → Row → First → Entries → List Found
 faults_again nodes lists invoice pick row f entries =
-    faults_at (kind_of nodes lists invoice row pick.node (context_in pick) (option_map said_first (kept_at (place_of_first f) entries)) (said_first f))
+    faults_at (kind_of nodes lists invoice row pick.node (context_in pick) (option_map parsed_first (kept_at (place_of_first f) entries)) (parsed_first f))
     pick.node pick.row f.term
 
 -- ---- what each step of the pass leaves, behind whatever was told before
 
 -- the step tells these values of the pick
-abbrev pub Tells : List Node → Lists → Option (List ℕ) → PlacedPick → Row → List Said → Entries → (List Found → Type 0) → Entries → (List Found → Type 0)
+abbrev pub Tells : List Node → Lists → Option (List ℕ) → PlacedPick → Row → List ParsedValue → Entries → (List Found → Type 0) → Entries → (List Found → Type 0)
     → Type 0
-Tells nodes lists invoice pick row said old was new is =
+Tells nodes lists invoice pick row parsed old was new is =
     (before : List Told) (p : Placed) (c : Currencies) → c.invoice ≡ invoice → kept_placed p ≡ pick → p.pick.row ≡ row
-    → Holds nodes lists c before old was → Holds nodes lists c (before ++ map (told_at p) said) new is
+    → Holds nodes lists c before old was → Holds nodes lists c (before ++ map (told_at p) parsed) new is
 
 -- the step tells what the pick says, by its row
 abbrev pub TellsPick : List Node → Lists → Option (List ℕ) → PlacedPick → Row → Entries → (List Found → Type 0) → Entries → (List Found → Type 0) → Type 0

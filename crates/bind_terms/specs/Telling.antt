@@ -15,7 +15,7 @@ use Rattle.term_table.specs.Places.{place, seat_place}
 use Rattle.bind_meaning.specs.declared.picked.PlacedPick.{PlacedPick}
 use Rattle.bind_meaning.specs.Currencies.{Currencies}
 use Rattle.bind_meaning.specs.Seats.{context_of, slot_of}
-use Rattle.bind_meaning.specs.Values.{Said}
+use Rattle.bind_meaning.specs.Values.{ParsedValue}
 use Rattle.bind_meaning.specs.Judging.{Found, Told, seat_of, first_before, faults_behind}
 use Rattle.bind_meaning.specs.Terms.{firsts_behind}
 use Rattle.bind_terms.specs.declared.firsts.First.{First}
@@ -24,8 +24,8 @@ abbrev pub seat_of_first : First → Seat
 seat_of_first f = record { term = f.term; context = f.context }
 
 -- what it said
-abbrev pub said_first : First → Said
-said_first f = record { term = f.term; value = f.value }
+abbrev pub parsed_first : First → ParsedValue
+parsed_first f = record { term = f.term; value = f.value }
 
 -- the place of its row in its context
 abbrev pub place_of_first : First → List ℕ
@@ -34,10 +34,10 @@ place_of_first f = place f.row f.context
 -- what was told, as it is kept
 abbrev pub first_of : Told → First
 first_of t = record {
-  row = unwrap_or (row_of t.said.term (context_of t.placed)) 0;
+  row = unwrap_or (row_of t.parsed.term (context_of t.placed)) 0;
   context = context_of t.placed;
-  term = t.said.term;
-  value = t.said.value;
+  term = t.parsed.term;
+  value = t.parsed.value;
 }
 
 abbrev pub Entries : Type 0

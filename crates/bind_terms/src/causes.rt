@@ -1,10 +1,10 @@
 //! The first cause of a fault at a node, in the order of their kinds.
 ghost use Rattle.std.specs.Prelude.{◌≡◌, ◌<◌, ◌||◌, IfOk, is_none, option_map, option_copied};
-ghost use Rattle.inv_terms.specs.Validity as lacks;
+ghost use Rattle.inv_terms.specs.Validity as violations;
 ghost use Rattle.bind_meaning.specs.Judging as spec;
-ghost use Rattle.bind_terms.specs.Sayings.{said_of};
-ghost use Rattle.bind_terms.specs.Scenes.{nodes_of, count, lists_of, currency_of};
-ghost use Rattle.bind_terms.specs.Telling.{context_in, said_first};
+ghost use Rattle.bind_terms.specs.ParsedValues.{parsed_of};
+ghost use Rattle.bind_terms.specs.Inputs.{nodes_of, count, lists_of, currency_of};
+ghost use Rattle.bind_terms.specs.Telling.{context_in, parsed_first};
 ghost use Rattle.bind_terms.specs.Kinds as kinds;
 
 use crate::checks::breaks;
@@ -13,7 +13,7 @@ use crate::firsts::First;
 use crate::insides::has_element_inside;
 use crate::rowed::RowedPick;
 use crate::telling::context_of;
-use crate::{Said, Scene};
+use crate::{ParsedValue, ReadingInput};
 use bind_meaning::{BindKind, form_for, type_of};
 use bind_rows::{Repeats, Row, Written};
 use code_lists::{CodeLists, List};
@@ -21,39 +21,39 @@ use inv_base::Steps;
 use inv_terms::{Value, is_outside};
 use std::alloc::AllocError;
 use std::sync::ledger::Ledger;
-use term_table::{Context, Letter, Term, list_in};
+use term_table::{Context, DataType, Term, list_in};
 
 /// What is wrong, if anything, with a value that a row says by its pick: the first cause in the order of the kinds.
 /// `first` is what the first pick of the term in the context said, where this isn't the first. An amount is compared with
 /// the currency of the invoice, unless it is the VAT total in the accounting currency.
 pub(crate) fn first_cause<L: Ledger>(
-    scene: &Scene<'_, '_>,
+    input: &ReadingInput<'_, '_>,
     rowed: &RowedPick<'_>,
     first: Option<&First>,
-    said: &Said,
+    parsed: &ParsedValue,
     steps: &mut Steps<L>,
 ) -> Result<Option<BindKind>, AllocError>
-    requires { rowed.now.pick.now.node < count scene.now }
-    ensures { IfOk result (λ kind. kind ≡ kinds.kind_of (nodes_of scene.now) (lists_of scene.now) (currency_of scene.now)
+    requires { rowed.now.pick.now.node < count input.now }
+    ensures { IfOk result (λ kind. kind ≡ kinds.kind_of (nodes_of input.now) (lists_of input.now) (currency_of input.now)
         rowed.now.row.now rowed.now.pick.now.node (context_in rowed.now.pick.now)
-        (option_map said_first (option_copied first.entry)) (said_of said.now)) }
+        (option_map parsed_first (option_copied first.entry)) (parsed_of parsed.now)) }
 {
     if first.is_some() && !may_repeat(rowed.row.repeats) {
         return Ok(Some(BindKind::Excess));
     }
-    if has_element_inside(scene.doc, rowed.pick.node, steps) {
+    if has_element_inside(input.doc, rowed.pick.node, steps) {
         return Ok(Some(BindKind::ElementInValue));
     }
-    if is_bad(scene, rowed, said, steps)? {
+    if is_bad(input, rowed, parsed, steps)? {
         return Ok(Some(BindKind::BadValue));
     }
-    if is_not_listed(scene.lists, context_of(rowed.pick), said) {
+    if is_not_listed(input.lists, context_of(rowed.pick), parsed) {
         return Ok(Some(BindKind::CodeNotListed));
     }
-    if is_foreign(scene, rowed, said.term, steps)? {
+    if is_foreign(input, rowed, parsed.term, steps)? {
         return Ok(Some(BindKind::CurrencyDiffers));
     }
-    if is_disagreeing(first, said) {
+    if is_disagreeing(first, parsed) {
         return Ok(Some(BindKind::Disagree));
     }
     Ok(None)
@@ -70,34 +70,34 @@ fn may_repeat(repeats: Repeats) -> bool
 
 // Whether the string is no value, or the node breaks what its row checks.
 fn is_bad<L: Ledger>(
-    scene: &Scene<'_, '_>,
+    input: &ReadingInput<'_, '_>,
     rowed: &RowedPick<'_>,
-    said: &Said,
+    parsed: &ParsedValue,
     steps: &mut Steps<L>,
 ) -> Result<bool, AllocError>
-    requires { rowed.now.pick.now.node < count scene.now }
-    ensures { IfOk result (λ bad. bad ≡ (is_none said.now.value
-        || spec.breaks (nodes_of scene.now) rowed.now.row.now.check rowed.now.pick.now.node)) }
+    requires { rowed.now.pick.now.node < count input.now }
+    ensures { IfOk result (λ bad. bad ≡ (is_none parsed.now.value
+        || spec.breaks (nodes_of input.now) rowed.now.row.now.check rowed.now.pick.now.node)) }
 {
-    if said.value.is_none() {
+    if parsed.value.is_none() {
         return Ok(true);
     }
     let node = rowed.pick.node;
-    breaks(scene.alloc, scene.doc, rowed.row.check, node, steps)
+    breaks(input.alloc, input.doc, rowed.row.check, node, steps)
 }
 
 // Whether the value is a code that isn't in the term's list.
-fn is_not_listed(lists: &CodeLists, context: Context, said: &Said) -> bool
-    ensures { result ≡ kinds.is_not_listed lists.now context (said_of said.now) }
+fn is_not_listed(lists: &CodeLists, context: Context, parsed: &ParsedValue) -> bool
+    ensures { result ≡ kinds.is_not_listed lists.now context (parsed_of parsed.now) }
 {
-    match &said.value {
-        Some(value) => is_outside(lists, list_of(said.term, context), value),
+    match &parsed.value {
+        Some(value) => is_outside(lists, list_of(parsed.term, context), value),
         None => false,
     }
 }
 
 fn list_of(term: Term, context: Context) -> Option<List>
-    ensures { result ≡ lacks.list_of term context }
+    ensures { result ≡ violations.list_of term context }
 {
     list_in(term, context.outer_group(), context.inner_group())
 }
@@ -106,7 +106,7 @@ fn list_of(term: Term, context: Context) -> Option<List>
 fn is_amount(row: &Row, term: Term) -> bool
     ensures { result ≡ kinds.is_amount row.now term }
 {
-    matches!(type_of(form_for(row.form, term), term), Some(Letter::A))
+    matches!(type_of(form_for(row.form, term), term), Some(DataType::A))
 }
 
 fn is_accounting_total(written: &Written) -> bool
@@ -117,28 +117,28 @@ fn is_accounting_total(written: &Written) -> bool
 
 // Whether the amount is in another currency than the invoice, where that isn't right.
 fn is_foreign<L: Ledger>(
-    scene: &Scene<'_, '_>,
+    input: &ReadingInput<'_, '_>,
     rowed: &RowedPick<'_>,
     term: Term,
     steps: &mut Steps<L>,
 ) -> Result<bool, AllocError>
-    requires { rowed.now.pick.now.node < count scene.now }
-    ensures { IfOk result (λ foreign. foreign ≡ kinds.is_foreign (nodes_of scene.now) (currency_of scene.now)
+    requires { rowed.now.pick.now.node < count input.now }
+    ensures { IfOk result (λ foreign. foreign ≡ kinds.is_foreign (nodes_of input.now) (currency_of input.now)
         rowed.now.row.now rowed.now.pick.now.node term) }
 {
     if is_amount(rowed.row, term) && !is_accounting_total(&rowed.row.written) {
         let node = rowed.pick.node;
-        return differs(scene.alloc, scene.doc, scene.invoice_currency, node, steps);
+        return differs(input.alloc, input.doc, input.invoice_currency, node, steps);
     }
     Ok(false)
 }
 
 // Whether the first pick of the term in the context said another value, or one of both said none.
-fn is_disagreeing(first: Option<&First>, said: &Said) -> bool
-    ensures { result ≡ kinds.is_disagreeing (option_map said_first (option_copied first.entry)) (said_of said.now) }
+fn is_disagreeing(first: Option<&First>, parsed: &ParsedValue) -> bool
+    ensures { result ≡ kinds.is_disagreeing (option_map parsed_first (option_copied first.entry)) (parsed_of parsed.now) }
 {
     match first {
-        Some(first) => disagree(&first.value, &said.value),
+        Some(first) => disagree(&first.value, &parsed.value),
         None => false,
     }
 }

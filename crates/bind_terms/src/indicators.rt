@@ -4,12 +4,12 @@ ghost use Rattle.bind_meaning.specs.Kept.{kept, all_kept};
 ghost use Rattle.bind_meaning.specs.Picks.{Pick};
 ghost use Rattle.bind_meaning.specs.Judging.{wrong_word};
 ghost use Rattle.bind_terms.specs.Faults.{Puts};
-ghost use Rattle.bind_terms.specs.Scenes.{nodes_of, count, rows_of};
+ghost use Rattle.bind_terms.specs.Inputs.{nodes_of, count, rows_of};
 ghost use Rattle.bind_terms.specs.Steps.{IsPickOfRow, HasRow};
 
+use crate::input::ReadingInput;
 use crate::is_word;
 use crate::keeping::Keeper;
-use crate::scene::Scene;
 use crate::telling::{fault_at, row_at};
 use bind_meaning::{BindKind, Picked};
 use bind_rows::{Check, Row};
@@ -19,53 +19,53 @@ use std::sync::ledger::Ledger;
 
 /// Gives the keeper a fault for each indicator with a wrong word.
 pub(crate) fn put_wrong_words<L: Ledger, K: Keeper>(
-    scene: &Scene<'_, '_>,
+    input: &ReadingInput<'_, '_>,
     indicators: &[Picked],
     keeper: &mut K,
     steps: &mut Steps<L>,
 ) -> Result<(), AllocError>
-    requires within { All (λ pick. pick.node < count scene.now) indicators.now }
-    requires rows { All (λ pick. HasRow (rows_of scene.now) pick.row) indicators.now }
-    ensures { OnOk result ((picks : List Pick) → indicators.now ≡ all_kept picks → All (IsPickOfRow (rows_of scene.now)) picks
-        → Puts (K.given keeper.old) (K.given keeper.new) (flat_map (wrong_word (nodes_of scene.now)) picks)) }
+    requires within { All (λ pick. pick.node < count input.now) indicators.now }
+    requires rows { All (λ pick. HasRow (rows_of input.now) pick.row) indicators.now }
+    ensures { OnOk result ((picks : List Pick) → indicators.now ≡ all_kept picks → All (IsPickOfRow (rows_of input.now)) picks
+        → Puts (K.given keeper.old) (K.given keeper.new) (flat_map (wrong_word (nodes_of input.now)) picks)) }
 {
     'indicators: for picked in indicators {
-        put_word(scene, *picked, keeper, steps)?;
+        put_word(input, *picked, keeper, steps)?;
     }
     Ok(())
 }
 
 fn put_word<L: Ledger, K: Keeper>(
-    scene: &Scene<'_, '_>,
+    input: &ReadingInput<'_, '_>,
     picked: Picked,
     keeper: &mut K,
     steps: &mut Steps<L>,
 ) -> Result<(), AllocError>
-    requires within { picked.node < count scene.now }
-    requires row { HasRow (rows_of scene.now) picked.row }
-    ensures { OnOk result ((pick : Pick) → kept pick ≡ picked → IsPickOfRow (rows_of scene.now) pick
-        → Puts (K.given keeper.old) (K.given keeper.new) (wrong_word (nodes_of scene.now) pick)) }
+    requires within { picked.node < count input.now }
+    requires row { HasRow (rows_of input.now) picked.row }
+    ensures { OnOk result ((pick : Pick) → kept pick ≡ picked → IsPickOfRow (rows_of input.now) pick
+        → Puts (K.given keeper.old) (K.given keeper.new) (wrong_word (nodes_of input.now) pick)) }
 {
-    match row_at(scene.table, picked.row) {
-        Some(row) => put_row(scene, row, picked, keeper, steps),
+    match row_at(input.table, picked.row) {
+        Some(row) => put_row(input, row, picked, keeper, steps),
         None => unreachable!(),
     }
 }
 
 fn put_row<L: Ledger, K: Keeper>(
-    scene: &Scene<'_, '_>,
+    input: &ReadingInput<'_, '_>,
     row: &Row,
     picked: Picked,
     keeper: &mut K,
     steps: &mut Steps<L>,
 ) -> Result<(), AllocError>
-    requires { picked.node < count scene.now }
+    requires { picked.node < count input.now }
     ensures { OnOk result ((pick : Pick) → kept pick ≡ picked → pick.row ≡ row.now
-        → Puts (K.given keeper.old) (K.given keeper.new) (wrong_word (nodes_of scene.now) pick)) }
+        → Puts (K.given keeper.old) (K.given keeper.new) (wrong_word (nodes_of input.now) pick)) }
 {
     match row.check {
         Check::Indicator(term) => {
-            let string = scene.doc.string(scene.alloc, picked.node, steps)?;
+            let string = input.doc.string(input.alloc, picked.node, steps)?;
             if is_word(string.as_str()) {
                 return Ok(());
             }

@@ -1,10 +1,10 @@
 //! Notes (BT-22) with their subject code (BT-21) in front of them: `#AAI#text`.
 ghost use Rattle.std.specs.Prelude.{◌≡◌, ◌∷◌, [], chars, IfOk};
 ghost use Rattle.bind_meaning.specs.Values as spec;
-ghost use Rattle.bind_terms.specs.Sayings.{all_said};
+ghost use Rattle.bind_terms.specs.ParsedValues.{all_parsed};
 ghost use Rattle.bind_terms.specs.Notes.{IsFirst, IsFront, is_coded};
 
-use crate::said::{Said, Sayings};
+use crate::parsed_values::{ParsedValue, ParsedValues};
 use crate::values::by_type;
 use inv_base::Txt;
 use inv_terms::is_blank;
@@ -33,8 +33,8 @@ pub(crate) struct Front<'a> {
 }
 
 /// The text as a note, behind its subject code if it has one.
-pub(crate) fn note_of(alloc: Global, text: &str) -> Result<Sayings, AllocError>
-    ensures { IfOk result (λ sayings. all_said sayings ≡ spec.note_of (chars text.now)) }
+pub(crate) fn note_of(alloc: Global, text: &str) -> Result<ParsedValues, AllocError>
+    ensures { IfOk result (λ parsed_values. all_parsed parsed_values ≡ spec.note_of (chars text.now)) }
 {
     match front_of(text) {
         Some(front) => {
@@ -93,26 +93,26 @@ fn is_subject_character(c: char) -> bool
     matches!(c, 'A'..='Z' | '0'..='9')
 }
 
-fn plain_note(alloc: Global, text: &str) -> Result<Sayings, AllocError>
-    ensures { IfOk result (λ sayings. all_said sayings ≡ spec.plain_note (chars text.now)) }
+fn plain_note(alloc: Global, text: &str) -> Result<ParsedValues, AllocError>
+    ensures { IfOk result (λ parsed_values. all_parsed parsed_values ≡ spec.plain_note (chars text.now)) }
 {
-    Ok(Sayings::One(Said {
+    Ok(ParsedValues::One(ParsedValue {
         term: NOTE,
         value: by_type(alloc, NOTE, text)?,
     }))
 }
 
-fn coded_note(alloc: Global, code: &[char], text: &str) -> Result<Sayings, AllocError>
-    ensures { IfOk result (λ sayings. all_said sayings ≡ spec.coded code.now (chars text.now)) }
+fn coded_note(alloc: Global, code: &[char], text: &str) -> Result<ParsedValues, AllocError>
+    ensures { IfOk result (λ parsed_values. all_parsed parsed_values ≡ spec.coded code.now (chars text.now)) }
 {
     let code = Txt::from_characters(alloc, code)?;
-    let note = Said {
+    let note = ParsedValue {
         term: NOTE,
         value: by_type(alloc, NOTE, text)?,
     };
-    let subject = Said {
+    let subject = ParsedValue {
         term: SUBJECT_CODE,
         value: by_type(alloc, SUBJECT_CODE, code.as_str())?,
     };
-    Ok(Sayings::Two(note, subject))
+    Ok(ParsedValues::Two(note, subject))
 }

@@ -3,11 +3,11 @@ ghost use Rattle.std.specs.Prelude.{◌≡◌, ◌<◌, [], ◌∷◌, All, Some
 ghost use Rattle.term_table.specs.Places as places;
 ghost use Rattle.term_table.specs.Rows as rows;
 ghost use Rattle.bind_meaning.specs.Seats as seats;
-ghost use Rattle.bind_terms.specs.Sayings.{said_of, all_said};
+ghost use Rattle.bind_terms.specs.ParsedValues.{parsed_of, all_parsed};
 ghost use Rattle.bind_terms.specs.Faults.{found_of, Puts};
-ghost use Rattle.bind_terms.specs.Scenes.{nodes_of, count, rows_of, lists_of, currency_of};
+ghost use Rattle.bind_terms.specs.Inputs.{nodes_of, count, rows_of, lists_of, currency_of};
 ghost use Rattle.bind_terms.specs.Telling.{context_in};
-ghost use Rattle.bind_terms.specs.Steps.{IsWithin, ArePlaced, said_by_row, SaysPlaced, Tells, TellsPick, TellsOf, TellsAll, HasRow, row_numbered};
+ghost use Rattle.bind_terms.specs.Steps.{IsWithin, ArePlaced, parsed_by_row, SaysPlaced, Tells, TellsPick, TellsOf, TellsAll, HasRow, row_numbered};
 ghost use Rattle.bind_terms.specs.Steps.{faults_again, faults_at, fault_at};
 
 use crate::causes::first_cause;
@@ -15,7 +15,7 @@ use crate::firsts::{First, Firsts};
 use crate::found::{Found, Side, Spot};
 use crate::keeping::Keeper;
 use crate::rowed::RowedPick;
-use crate::{Said, Sayings, Scene, what_is_said};
+use crate::{ParsedValue, ParsedValues, ReadingInput, parse_values};
 use bind_meaning::{BindFault, BindKind, PlacedPick, Seated};
 use bind_rows::{Content, Row};
 use bind_table::Binding;
@@ -57,65 +57,65 @@ pub(crate) fn row_at(table: &Binding, number: u32) -> Option<&Row>
 
 /// What all picks say, in document order: the first of each is put by, and each fault is given to the keeper.
 pub(crate) fn tell_picks<L: Ledger, K: Keeper>(
-    scene: &Scene<'_, '_>,
+    input: &ReadingInput<'_, '_>,
     picks: &[PlacedPick],
     firsts: &mut Firsts,
     keeper: &mut K,
     steps: &mut Steps<L>,
 ) -> Result<(), AllocError>
-    requires within { All (IsWithin (count scene.now)) picks.now }
-    requires rows { All (λ pick. HasRow (rows_of scene.now) pick.row) picks.now }
-    requires placed { All (SaysPlaced (nodes_of scene.now) (rows_of scene.now)) picks.now }
+    requires within { All (IsWithin (count input.now)) picks.now }
+    requires rows { All (λ pick. HasRow (rows_of input.now) pick.row) picks.now }
+    requires placed { All (SaysPlaced (nodes_of input.now) (rows_of input.now)) picks.now }
     requires empty { firsts.old.entries ≡ [] }
     requires none { K.given keeper.old [] }
-    ensures { OnOk result (TellsAll (nodes_of scene.now) (lists_of scene.now) (currency_of scene.now) picks.now (rows_of scene.now)
+    ensures { OnOk result (TellsAll (nodes_of input.now) (lists_of input.now) (currency_of input.now) picks.now (rows_of input.now)
         firsts.new.entries (K.given keeper.new)) }
 {
     'picks: for pick in picks {
-        tell_pick(scene, pick, firsts, keeper, steps)?;
+        tell_pick(input, pick, firsts, keeper, steps)?;
     }
     Ok(())
 }
 
 // What one pick says, behind those before it.
 fn tell_pick<L: Ledger, K: Keeper>(
-    scene: &Scene<'_, '_>,
+    input: &ReadingInput<'_, '_>,
     pick: &PlacedPick,
     firsts: &mut Firsts,
     keeper: &mut K,
     steps: &mut Steps<L>,
 ) -> Result<(), AllocError>
-    requires within { IsWithin (count scene.now) pick.now }
-    requires row { HasRow (rows_of scene.now) pick.now.row }
-    requires placed { SaysPlaced (nodes_of scene.now) (rows_of scene.now) pick.now }
-    ensures { OnOk result (TellsOf (nodes_of scene.now) (lists_of scene.now) (currency_of scene.now) pick.now (rows_of scene.now)
+    requires within { IsWithin (count input.now) pick.now }
+    requires row { HasRow (rows_of input.now) pick.now.row }
+    requires placed { SaysPlaced (nodes_of input.now) (rows_of input.now) pick.now }
+    ensures { OnOk result (TellsOf (nodes_of input.now) (lists_of input.now) (currency_of input.now) pick.now (rows_of input.now)
         firsts.old.entries (K.given keeper.old) firsts.new.entries (K.given keeper.new)) }
 {
-    match row_at(scene.table, pick.row) {
-        Some(row) => tell_row(scene, &RowedPick { row, pick }, firsts, keeper, steps),
+    match row_at(input.table, pick.row) {
+        Some(row) => tell_row(input, &RowedPick { row, pick }, firsts, keeper, steps),
         None => unreachable!(),
     }
 }
 
 // The same by its row.
 fn tell_row<L: Ledger, K: Keeper>(
-    scene: &Scene<'_, '_>,
+    input: &ReadingInput<'_, '_>,
     rowed: &RowedPick<'_>,
     firsts: &mut Firsts,
     keeper: &mut K,
     steps: &mut Steps<L>,
 ) -> Result<(), AllocError>
-    requires within { IsWithin (count scene.now) rowed.now.pick.now }
-    requires placed { ArePlaced (context_in rowed.now.pick.now) (said_by_row (nodes_of scene.now) rowed.now.pick.now rowed.now.row.now) }
-    ensures { OnOk result (TellsPick (nodes_of scene.now) (lists_of scene.now) (currency_of scene.now) rowed.now.pick.now rowed.now.row.now
+    requires within { IsWithin (count input.now) rowed.now.pick.now }
+    requires placed { ArePlaced (context_in rowed.now.pick.now) (parsed_by_row (nodes_of input.now) rowed.now.pick.now rowed.now.row.now) }
+    ensures { OnOk result (TellsPick (nodes_of input.now) (lists_of input.now) (currency_of input.now) rowed.now.pick.now rowed.now.row.now
         firsts.old.entries (K.given keeper.old) firsts.new.entries (K.given keeper.new)) }
 {
     match rowed.row.content {
         Content::Term(term) => {
             let node = rowed.pick.node;
-            let string = scene.doc.string(scene.alloc, node, steps)?;
-            let sayings = what_is_said(scene.alloc, rowed.row.form, term, string.as_str())?;
-            tell_all(scene, rowed, sayings, firsts, keeper, steps)
+            let string = input.doc.string(input.alloc, node, steps)?;
+            let parsed_values = parse_values(input.alloc, rowed.row.form, term, string.as_str())?;
+            tell_all(input, rowed, parsed_values, firsts, keeper, steps)
         }
         Content::Constant(_) => Ok(()),
     }
@@ -123,46 +123,47 @@ fn tell_row<L: Ledger, K: Keeper>(
 
 // All that a pick says.
 fn tell_all<L: Ledger, K: Keeper>(
-    scene: &Scene<'_, '_>,
+    input: &ReadingInput<'_, '_>,
     rowed: &RowedPick<'_>,
-    sayings: Sayings,
+    parsed_values: ParsedValues,
     firsts: &mut Firsts,
     keeper: &mut K,
     steps: &mut Steps<L>,
 ) -> Result<(), AllocError>
-    requires within { IsWithin (count scene.now) rowed.now.pick.now }
-    requires placed { ArePlaced (context_in rowed.now.pick.now) (all_said sayings) }
-    ensures { OnOk result (Tells (nodes_of scene.now) (lists_of scene.now) (currency_of scene.now) rowed.now.pick.now rowed.now.row.now (all_said sayings)
+    requires within { IsWithin (count input.now) rowed.now.pick.now }
+    requires placed { ArePlaced (context_in rowed.now.pick.now) (all_parsed parsed_values) }
+    ensures { OnOk result (Tells (nodes_of input.now) (lists_of input.now) (currency_of input.now) rowed.now.pick.now rowed.now.row.now (all_parsed
+        parsed_values)
         firsts.old.entries (K.given keeper.old) firsts.new.entries (K.given keeper.new)) }
 {
-    match sayings {
-        Sayings::One(one) => tell(scene, rowed, one, firsts, keeper, steps),
-        Sayings::Two(one, other) => {
-            tell(scene, rowed, one, firsts, keeper, steps)?;
-            tell(scene, rowed, other, firsts, keeper, steps)
+    match parsed_values {
+        ParsedValues::One(one) => tell(input, rowed, one, firsts, keeper, steps),
+        ParsedValues::Two(one, other) => {
+            tell(input, rowed, one, firsts, keeper, steps)?;
+            tell(input, rowed, other, firsts, keeper, steps)
         }
     }
 }
 
 // One value that a pick says.
 fn tell<L: Ledger, K: Keeper>(
-    scene: &Scene<'_, '_>,
+    input: &ReadingInput<'_, '_>,
     rowed: &RowedPick<'_>,
-    said: Said,
+    parsed: ParsedValue,
     firsts: &mut Firsts,
     keeper: &mut K,
     steps: &mut Steps<L>,
 ) -> Result<(), AllocError>
-    requires within { IsWithin (count scene.now) rowed.now.pick.now }
-    requires placed { is_some (places.place_of said.term (context_in rowed.now.pick.now)) ≡ true }
-    ensures { OnOk result (Tells (nodes_of scene.now) (lists_of scene.now) (currency_of scene.now) rowed.now.pick.now rowed.now.row.now (said_of said ∷ [])
+    requires within { IsWithin (count input.now) rowed.now.pick.now }
+    requires placed { is_some (places.place_of parsed.term (context_in rowed.now.pick.now)) ≡ true }
+    ensures { OnOk result (Tells (nodes_of input.now) (lists_of input.now) (currency_of input.now) rowed.now.pick.now rowed.now.row.now (parsed_of parsed ∷ [])
         firsts.old.entries (K.given keeper.old) firsts.new.entries (K.given keeper.new)) }
 {
-    let term = said.term;
+    let term = parsed.term;
     let context = context_of(rowed.pick);
     let listed = row_in(term, context);
-    let kind = first_cause(scene, rowed, None, &said, steps)?;
-    let Said { term: _, value } = said;
+    let kind = first_cause(input, rowed, None, &parsed, steps)?;
+    let ParsedValue { term: _, value } = parsed;
     let told = First {
         context,
         row: listed,
@@ -171,21 +172,21 @@ fn tell<L: Ledger, K: Keeper>(
     };
     match firsts.insert(told)? {
         None => put_cause(keeper, kind, rowed.pick, term),
-        Some(again) => tell_again(scene, rowed, again, firsts, keeper, steps),
+        Some(again) => tell_again(input, rowed, again, firsts, keeper, steps),
     }
 }
 
 // The fault of a value that isn't the first of its term in its context, where there is one.
 fn tell_again<L: Ledger, K: Keeper>(
-    scene: &Scene<'_, '_>,
+    input: &ReadingInput<'_, '_>,
     rowed: &RowedPick<'_>,
     again: First,
     firsts: &Firsts,
     keeper: &mut K,
     steps: &mut Steps<L>,
 ) -> Result<(), AllocError>
-    requires { IsWithin (count scene.now) rowed.now.pick.now }
-    ensures { OnOk result (Puts (K.given keeper.old) (K.given keeper.new) (faults_again (nodes_of scene.now) (lists_of scene.now) (currency_of scene.now)
+    requires { IsWithin (count input.now) rowed.now.pick.now }
+    ensures { OnOk result (Puts (K.given keeper.old) (K.given keeper.new) (faults_again (nodes_of input.now) (lists_of input.now) (currency_of input.now)
         rowed.now.pick.now rowed.now.row.now again firsts.now.entries)) }
 {
     let first = firsts.get(&again.key());
@@ -195,9 +196,9 @@ fn tell_again<L: Ledger, K: Keeper>(
         term,
         value,
     } = again;
-    let said = Said { term, value };
-    let kind = first_cause(scene, rowed, first, &said, steps)?;
-    drop(said);
+    let parsed = ParsedValue { term, value };
+    let kind = first_cause(input, rowed, first, &parsed, steps)?;
+    drop(parsed);
     put_cause(keeper, kind, rowed.pick, term)
 }
 

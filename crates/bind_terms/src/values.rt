@@ -7,14 +7,14 @@ use inv_base::{Txt, is_same_text};
 use inv_decimal::Day;
 use inv_terms::{Value, trimmed};
 use std::alloc::{AllocError, Global};
-use term_table::{Term, letter_of};
+use term_table::{Term, data_type_of};
 
 /// The value that a string has by the type of the term.
 pub(crate) fn by_type(alloc: Global, term: Term, text: &str) -> Result<Option<Value>, AllocError>
     ensures { IfOk result (λ value. value ≡ spec.by_type term (chars text.now)) }
 {
-    match letter_of(term) {
-        Some(letter) => Value::read(alloc, letter, text),
+    match data_type_of(term) {
+        Some(data_type) => Value::read(alloc, data_type, text),
         None => Ok(None),
     }
 }

@@ -6,8 +6,8 @@ ghost use Rattle.inv_terms.specs.Values.{trimmed};
 ghost use Rattle.bind_walk.specs.Found as spec;
 
 use crate::chains::chains_lead_on;
-use crate::names::{FoundLeaf, find_element, find_leaf, has_name};
-use crate::scene::Scene;
+use crate::input::WalkInput;
+use crate::names::{FoundLeaf, element_number, has_name, leaf_number};
 use crate::strings::is_trimmed;
 use bind_rows::{Copied, ElementName, Guard, Many, Test};
 use inv_base::{Steps, Txt};
@@ -52,7 +52,7 @@ fn find_guard(alloc: Global, doc: &Doc<'_>, guard: &Guard) -> Result<FoundGuard,
 {
     Ok(FoundGuard {
         path: find_path(alloc, doc, guard.place.path.as_slice())?,
-        leaf: find_leaf(alloc, doc, &guard.place.leaf)?,
+        leaf: leaf_number(alloc, doc, &guard.place.leaf)?,
         test: guard.test.copied(alloc)?,
     })
 }
@@ -66,23 +66,23 @@ fn find_path(
 {
     let mut found = Many::new(alloc);
     'names: for name in path {
-        found.push(find_element(alloc, doc, name)?)?;
+        found.push(element_number(alloc, doc, name)?)?;
     }
     Ok(found)
 }
 
 /// Whether all guards are met at an element.
 pub fn are_met<L: Ledger>(
-    scene: &Scene<'_, '_>,
+    input: &WalkInput<'_, '_>,
     n: NodeId,
     guards: &[FoundGuard],
     steps: &mut Steps<L>,
 ) -> Result<bool, AllocError>
-    requires { n < length scene.now.doc.now.nodes }
-    ensures { IfOk result (λ met. met ≡ list_all (spec.is_met scene.now.doc.now n) guards.now) }
+    requires { n < length input.now.doc.now.nodes }
+    ensures { IfOk result (λ met. met ≡ list_all (spec.is_met input.now.doc.now n) guards.now) }
 {
     'guards: for guard in guards {
-        if !is_met(scene, n, guard, steps)? {
+        if !is_met(input, n, guard, steps)? {
             return Ok(false);
         }
     }
@@ -90,15 +90,15 @@ pub fn are_met<L: Ledger>(
 }
 
 fn is_met<L: Ledger>(
-    scene: &Scene<'_, '_>,
+    input: &WalkInput<'_, '_>,
     n: NodeId,
     guard: &FoundGuard,
     steps: &mut Steps<L>,
 ) -> Result<bool, AllocError>
-    requires { n < length scene.now.doc.now.nodes }
-    ensures { IfOk result (λ met. met ≡ spec.is_met scene.now.doc.now n guard.now) }
+    requires { n < length input.now.doc.now.nodes }
+    ensures { IfOk result (λ met. met ≡ spec.is_met input.now.doc.now n guard.now) }
 {
-    let found = some_below(scene, n, guard.path.as_slice(), guard, steps)?;
+    let found = some_below(input, n, guard.path.as_slice(), guard, steps)?;
     Ok(found == is_positive(&guard.test))
 }
 
@@ -115,25 +115,25 @@ fn is_positive(test: &Test) -> bool
 /// Whether a node at the end of the path has a string that the guard looks for.
 #[cycle(below)]
 fn some_below<L: Ledger>(
-    scene: &Scene<'_, '_>,
+    input: &WalkInput<'_, '_>,
     n: NodeId,
     path: &[Option<u32>],
     guard: &FoundGuard,
     steps: &mut Steps<L>,
 ) -> Result<bool, AllocError>
-    requires { n < length scene.now.doc.now.nodes }
-    ensures { IfOk result (λ found. found ≡ spec.some_below scene.now.doc.now guard.now path.now n) }
+    requires { n < length input.now.doc.now.nodes }
+    ensures { IfOk result (λ found. found ≡ spec.some_below input.now.doc.now guard.now path.now n) }
 {
     let Some((name, deeper)) = path.split_first() else {
-        return is_at(scene, n, guard, steps);
+        return is_at(input, n, guard, steps);
     };
-    chains_lead_on(scene.doc);
-    let mut at = scene.doc.first_child(n, steps);
+    chains_lead_on(input.doc);
+    let mut at = input.doc.first_child(n, steps);
     'children: while let Some(m) = at {
-        if some_at(scene, m, *name, deeper, guard, steps)? {
+        if some_at(input, m, *name, deeper, guard, steps)? {
             return Ok(true);
         }
-        at = scene.doc.next_sibling(m, steps);
+        at = input.doc.next_sibling(m, steps);
     }
     Ok(false)
 }
@@ -141,86 +141,86 @@ fn some_below<L: Ledger>(
 /// The same for one child: where it has the name, below it.
 #[cycle(below)]
 fn some_at<L: Ledger>(
-    scene: &Scene<'_, '_>,
+    input: &WalkInput<'_, '_>,
     n: NodeId,
     name: Option<u32>,
     path: &[Option<u32>],
     guard: &FoundGuard,
     steps: &mut Steps<L>,
 ) -> Result<bool, AllocError>
-    requires { n < length scene.now.doc.now.nodes }
-    ensures { IfOk result (λ found. found ≡ spec.some_at scene.now.doc.now guard.now name path.now n) }
+    requires { n < length input.now.doc.now.nodes }
+    ensures { IfOk result (λ found. found ≡ spec.some_at input.now.doc.now guard.now name path.now n) }
 {
-    if !has_name(scene.doc, n, name) {
+    if !has_name(input.doc, n, name) {
         return Ok(false);
     }
-    some_below(scene, n, path, guard, steps)
+    some_below(input, n, path, guard, steps)
 }
 
 /// Whether the element, or the attribute of it that the guard names, has a string that the guard looks for.
 fn is_at<L: Ledger>(
-    scene: &Scene<'_, '_>,
+    input: &WalkInput<'_, '_>,
     n: NodeId,
     guard: &FoundGuard,
     steps: &mut Steps<L>,
 ) -> Result<bool, AllocError>
-    requires { n < length scene.now.doc.now.nodes }
-    ensures { IfOk result (λ found. found ≡ spec.is_at scene.now.doc.now guard.now.test guard.now.leaf n) }
+    requires { n < length input.now.doc.now.nodes }
+    ensures { IfOk result (λ found. found ≡ spec.is_at input.now.doc.now guard.now.test guard.now.leaf n) }
 {
     match &guard.leaf {
-        FoundLeaf::Element => holds(scene, n, &guard.test, steps),
-        FoundLeaf::Attribute(name) => some_attribute(scene, n, *name, &guard.test, steps),
+        FoundLeaf::Element => holds(input, n, &guard.test, steps),
+        FoundLeaf::Attribute(name) => some_attribute(input, n, *name, &guard.test, steps),
     }
 }
 
 fn some_attribute<L: Ledger>(
-    scene: &Scene<'_, '_>,
+    input: &WalkInput<'_, '_>,
     n: NodeId,
     name: Option<u32>,
     test: &Test,
     steps: &mut Steps<L>,
 ) -> Result<bool, AllocError>
-    requires { n < length scene.now.doc.now.nodes }
-    ensures { IfOk result (λ found. found ≡ spec.some_attribute scene.now.doc.now test.now name n) }
+    requires { n < length input.now.doc.now.nodes }
+    ensures { IfOk result (λ found. found ≡ spec.some_attribute input.now.doc.now test.now name n) }
 {
-    chains_lead_on(scene.doc);
-    let mut at = scene.doc.first_attribute(n, steps);
+    chains_lead_on(input.doc);
+    let mut at = input.doc.first_attribute(n, steps);
     'attributes: while let Some(m) = at {
-        if holds_named(scene, m, name, test, steps)? {
+        if holds_named(input, m, name, test, steps)? {
             return Ok(true);
         }
-        at = scene.doc.next_attribute(m, steps);
+        at = input.doc.next_attribute(m, steps);
     }
     Ok(false)
 }
 
 fn holds_named<L: Ledger>(
-    scene: &Scene<'_, '_>,
+    input: &WalkInput<'_, '_>,
     n: NodeId,
     name: Option<u32>,
     test: &Test,
     steps: &mut Steps<L>,
 ) -> Result<bool, AllocError>
-    requires { n < length scene.now.doc.now.nodes }
-    ensures { IfOk result (λ found. found ≡ spec.holds_named scene.now.doc.now test.now name n) }
+    requires { n < length input.now.doc.now.nodes }
+    ensures { IfOk result (λ found. found ≡ spec.holds_named input.now.doc.now test.now name n) }
 {
-    if !has_name(scene.doc, n, name) {
+    if !has_name(input.doc, n, name) {
         return Ok(false);
     }
-    holds(scene, n, test, steps)
+    holds(input, n, test, steps)
 }
 
 /// Whether a node's string is one that the test looks for.
 fn holds<L: Ledger>(
-    scene: &Scene<'_, '_>,
+    input: &WalkInput<'_, '_>,
     n: NodeId,
     test: &Test,
     steps: &mut Steps<L>,
 ) -> Result<bool, AllocError>
-    requires { n < length scene.now.doc.now.nodes }
-    ensures { IfOk result (λ found. found ≡ spec.holds scene.now.doc.now test.now n) }
+    requires { n < length input.now.doc.now.nodes }
+    ensures { IfOk result (λ found. found ≡ spec.holds input.now.doc.now test.now n) }
 {
-    let string = scene.doc.string(scene.alloc, n, steps)?;
+    let string = input.doc.string(input.alloc, n, steps)?;
     Ok(looks_for(test, string.as_str()))
 }
 

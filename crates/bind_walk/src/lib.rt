@@ -5,17 +5,17 @@
 mod chains;
 mod finds;
 mod guards;
+mod input;
 mod lines;
 mod names;
 mod passed;
 mod picks;
-mod scene;
 mod sorting;
 mod strings;
 mod walk;
 
 pub use chains::chains_lead_on;
 pub use guards::{FoundGuard, are_met, find_guards};
-pub use names::{FoundLeaf, find_element, find_leaf, has_name};
+pub use input::WalkInput;
+pub use names::{FoundLeaf, element_number, has_name, leaf_number};
 pub use picks::{Picks, pick_all};
-pub use scene::Scene;

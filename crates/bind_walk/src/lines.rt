@@ -5,7 +5,7 @@ ghost use Rattle.std.specs.List.{flat_map};
 ghost use Rattle.bind_table.specs.Lines.{flat, plan_of};
 ghost use Rattle.bind_walk.specs.Lines as spec;
 
-use crate::{FoundGuard, FoundLeaf, find_element, find_guards, find_leaf};
+use crate::{FoundGuard, FoundLeaf, element_number, find_guards, leaf_number};
 use bind_rows::{Check, Content, Many, Row};
 use bind_table::{Binding, Line};
 use node_arena::Doc;
@@ -87,7 +87,7 @@ fn find_line(
     ensures { IfOk result (λ found. found ≡ spec.found_line doc.now rows.now line.now) }
 {
     Ok(FoundLine {
-        name: find_element(alloc, doc, &line.step.name)?,
+        name: element_number(alloc, doc, &line.step.name)?,
         guards: find_guards(alloc, doc, line.step.guards.as_slice())?,
         group: line.step.group,
         rows: find_rows(alloc, doc, line.rows.as_slice(), rows)?,
@@ -160,7 +160,7 @@ fn find_row(
 ) -> Result<FoundRow, AllocError>
     ensures { IfOk result (λ found. found ≡ spec.wanted_row doc.now number row.now wanted) }
 {
-    let leaf = find_leaf(alloc, doc, &row.leaf)?;
+    let leaf = leaf_number(alloc, doc, &row.leaf)?;
     Ok(FoundRow {
         number: number_of(number)?,
         wanted,

@@ -18,7 +18,7 @@ pub enum FoundLeaf {
 }
 
 /// The number that an element's name has in the document, if the document has the name.
-pub fn find_element(
+pub fn element_number(
     alloc: Global,
     doc: &Doc<'_>,
     name: &ElementName,
@@ -32,7 +32,7 @@ pub fn find_element(
 }
 
 /// A path's end as the document has it.
-pub fn find_leaf(alloc: Global, doc: &Doc<'_>, leaf: &Leaf) -> Result<FoundLeaf, AllocError>
+pub fn leaf_number(alloc: Global, doc: &Doc<'_>, leaf: &Leaf) -> Result<FoundLeaf, AllocError>
     ensures { IfOk result (λ found. found ≡ spec.found_leaf doc.now leaf.now) }
 {
     match leaf {

@@ -20,7 +20,7 @@ use crate::lines::{FoundLine, find_lines};
 use crate::passed::passed_of;
 use crate::sorting::sorted;
 use crate::walk::{Carried, Position, lines_lead_as_steps_do, walk};
-use crate::{Scene, chains_lead_on};
+use crate::{WalkInput, chains_lead_on};
 use bind_meaning::Picked;
 use bind_rows::Many;
 use bind_table::Binding;
@@ -32,7 +32,7 @@ use std::sync::ledger::Ledger;
 
 /// What the rows of a table pick in a document, in document order and at one node by their rows.
 pub struct Picks {
-    /// What rows with a term pick, before any rule on fillers and currencies.
+    /// What rows with a term pick, before any rule on placeholders and currencies.
     pub terms: Vec<Picked>,
     /// What rows without a term pick, whose word is checked.
     pub indicators: Vec<Picked>,
@@ -138,12 +138,12 @@ fn find_all<L: Ledger>(
     ensures { IfOk result (λ finds. (plan : Plan) → lines.now ≡ lined doc.now plan → finds ≡ put_all (lists_of [] []) (strolled doc.now plan [] 0)) }
 {
     let mut finds = Finds::new(alloc);
-    let scene = Scene { alloc, doc };
+    let input = WalkInput { alloc, doc };
     let top = Position {
         node: doc.document(),
         around: &[],
     };
-    walk(&scene, lines, &top, &mut finds, steps)?;
+    walk(&input, lines, &top, &mut finds, steps)?;
     Ok(finds)
 }
 

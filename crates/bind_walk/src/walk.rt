@@ -11,7 +11,7 @@ ghost use Rattle.bind_walk.specs.Walks as spec;
 use crate::finds::{Find, Finds};
 use crate::lines::{End, FoundLine, FoundRow};
 use crate::names::is_number;
-use crate::{Scene, are_met, chains_lead_on, has_name};
+use crate::{WalkInput, are_met, chains_lead_on, has_name};
 use bind_meaning::{Picked, is_blank_at};
 use bind_rows::is_same_or_none;
 use inv_base::Steps;
@@ -46,28 +46,28 @@ pub(crate) fn lines_lead_as_steps_do(doc: &Doc<'_>)
 /// Records what the rows at these lines pick below an element.
 #[cycle(walking)]
 pub(crate) fn walk<L: Ledger>(
-    scene: &Scene<'_, '_>,
+    input: &WalkInput<'_, '_>,
     lines: &[FoundLine],
     position: &Position<'_>,
     finds: &mut Finds,
     steps: &mut Steps<L>,
 ) -> Result<(), AllocError>
-    requires within { position.now.node < length scene.now.doc.now.nodes }
-    requires lined { spec.AreLined scene.now.doc.now lines.now }
-    ensures { OnOk result (spec.Walks scene.now.doc.now lines.now position.now.node position.now.around.now finds.old finds.new) }
+    requires within { position.now.node < length input.now.doc.now.nodes }
+    requires lined { spec.AreLined input.now.doc.now lines.now }
+    ensures { OnOk result (spec.Walks input.now.doc.now lines.now position.now.node position.now.around.now finds.old finds.new) }
 {
     if lines.is_empty() {
         return Ok(());
     }
-    chains_lead_on(scene.doc);
-    let mut at = scene.doc.first_child(position.node, steps);
+    chains_lead_on(input.doc);
+    let mut at = input.doc.first_child(position.node, steps);
     'children: while let Some(m) = at {
         let child = Position {
             node: m,
             around: position.around,
         };
-        meet(scene, lines, &child, finds, steps)?;
-        at = scene.doc.next_sibling(m, steps);
+        meet(input, lines, &child, finds, steps)?;
+        at = input.doc.next_sibling(m, steps);
     }
     Ok(())
 }
@@ -75,18 +75,18 @@ pub(crate) fn walk<L: Ledger>(
 /// Records what the rows at these lines and inside them pick in one child.
 #[cycle(walking)]
 fn meet<L: Ledger>(
-    scene: &Scene<'_, '_>,
+    input: &WalkInput<'_, '_>,
     lines: &[FoundLine],
     position: &Position<'_>,
     finds: &mut Finds,
     steps: &mut Steps<L>,
 ) -> Result<(), AllocError>
-    requires within { position.now.node < length scene.now.doc.now.nodes }
-    requires lined { spec.AreLined scene.now.doc.now lines.now }
-    ensures { OnOk result (spec.Meets scene.now.doc.now lines.now position.now.node position.now.around.now finds.old finds.new) }
+    requires within { position.now.node < length input.now.doc.now.nodes }
+    requires lined { spec.AreLined input.now.doc.now lines.now }
+    ensures { OnOk result (spec.Meets input.now.doc.now lines.now position.now.node position.now.around.now finds.old finds.new) }
 {
-    match scene.doc.name(position.node) {
-        Some(name) => follow(scene, lines, position, name.number(), finds, steps),
+    match input.doc.name(position.node) {
+        Some(name) => follow(input, lines, position, name.number(), finds, steps),
         None => Ok(()),
     }
 }
@@ -94,23 +94,23 @@ fn meet<L: Ledger>(
 /// The same where the child's name has this number: by the lines that have it too.
 #[cycle(walking)]
 fn follow<L: Ledger>(
-    scene: &Scene<'_, '_>,
+    input: &WalkInput<'_, '_>,
     lines: &[FoundLine],
     position: &Position<'_>,
     name: u32,
     finds: &mut Finds,
     steps: &mut Steps<L>,
 ) -> Result<(), AllocError>
-    requires within { position.now.node < length scene.now.doc.now.nodes }
-    requires named { (node_at scene.now.doc.now.nodes position.now.node).name ≡ Some name }
-    requires lined { spec.AreLined scene.now.doc.now lines.now }
-    ensures { OnOk result (spec.Meets scene.now.doc.now lines.now position.now.node position.now.around.now finds.old finds.new) }
+    requires within { position.now.node < length input.now.doc.now.nodes }
+    requires named { (node_at input.now.doc.now.nodes position.now.node).name ≡ Some name }
+    requires lined { spec.AreLined input.now.doc.now lines.now }
+    ensures { OnOk result (spec.Meets input.now.doc.now lines.now position.now.node position.now.around.now finds.old finds.new) }
 {
     let mut left = lines;
     'lines: while let Some((line, behind)) = left.split_first() {
         let (inside, rest) = behind.split_at(line.size);
         if is_number(line.name, name) {
-            enter(scene, line, inside, position, finds, steps)?;
+            enter(input, line, inside, position, finds, steps)?;
         }
         left = rest;
     }
@@ -120,33 +120,33 @@ fn follow<L: Ledger>(
 /// Records what the rows at a line and inside it pick in a child, where it is an element of the line.
 #[cycle(walking)]
 fn enter<L: Ledger>(
-    scene: &Scene<'_, '_>,
+    input: &WalkInput<'_, '_>,
     line: &FoundLine,
     inside: &[FoundLine],
     position: &Position<'_>,
     finds: &mut Finds,
     steps: &mut Steps<L>,
 ) -> Result<(), AllocError>
-    requires within { position.now.node < length scene.now.doc.now.nodes }
-    requires lined { spec.AreLined scene.now.doc.now inside.now }
-    ensures { OnOk result (spec.Enters scene.now.doc.now line.now inside.now position.now.node position.now.around.now finds.old finds.new) }
+    requires within { position.now.node < length input.now.doc.now.nodes }
+    requires lined { spec.AreLined input.now.doc.now inside.now }
+    ensures { OnOk result (spec.Enters input.now.doc.now line.now inside.now position.now.node position.now.around.now finds.old finds.new) }
 {
-    if !passes(scene, line, position.node, steps)? {
+    if !passes(input, line, position.node, steps)? {
         return Ok(());
     }
     match line.group {
-        None => pick_in(scene, line, inside, position, finds, steps),
+        None => pick_in(input, line, inside, position, finds, steps),
         Some(group) => {
             let carried = Carried {
                 group,
                 element: position.node,
             };
-            let further = with_carrier(scene.alloc, position.around, carried)?;
+            let further = with_carrier(input.alloc, position.around, carried)?;
             let carrier = Position {
                 node: position.node,
                 around: further.as_slice(),
             };
-            pick_in(scene, line, inside, &carrier, finds, steps)
+            pick_in(input, line, inside, &carrier, finds, steps)
         }
     }
 }
@@ -154,19 +154,19 @@ fn enter<L: Ledger>(
 /// The same in an element of the line.
 #[cycle(walking)]
 fn pick_in<L: Ledger>(
-    scene: &Scene<'_, '_>,
+    input: &WalkInput<'_, '_>,
     line: &FoundLine,
     inside: &[FoundLine],
     position: &Position<'_>,
     finds: &mut Finds,
     steps: &mut Steps<L>,
 ) -> Result<(), AllocError>
-    requires within { position.now.node < length scene.now.doc.now.nodes }
-    requires lined { spec.AreLined scene.now.doc.now inside.now }
-    ensures { OnOk result (spec.PicksIn scene.now.doc.now line.now inside.now position.now.node position.now.around.now finds.old finds.new) }
+    requires within { position.now.node < length input.now.doc.now.nodes }
+    requires lined { spec.AreLined input.now.doc.now inside.now }
+    ensures { OnOk result (spec.PicksIn input.now.doc.now line.now inside.now position.now.node position.now.around.now finds.old finds.new) }
 {
-    pick_here(scene, line.rows.as_slice(), position, finds, steps)?;
-    walk(scene, inside, position, finds, steps)
+    pick_here(input, line.rows.as_slice(), position, finds, steps)?;
+    walk(input, inside, position, finds, steps)
 }
 
 /// The elements around, and one more behind them.
@@ -185,100 +185,100 @@ fn with_carrier(
 
 /// Whether a node is an element of the line, its guards met.
 fn passes<L: Ledger>(
-    scene: &Scene<'_, '_>,
+    input: &WalkInput<'_, '_>,
     line: &FoundLine,
     n: NodeId,
     steps: &mut Steps<L>,
 ) -> Result<bool, AllocError>
-    requires { n < length scene.now.doc.now.nodes }
-    ensures { IfOk result (λ passes. passes ≡ (has_found line.now.name (node_at scene.now.doc.now.nodes n)
-        && list_all (is_met scene.now.doc.now n) line.now.guards)) }
+    requires { n < length input.now.doc.now.nodes }
+    ensures { IfOk result (λ passes. passes ≡ (has_found line.now.name (node_at input.now.doc.now.nodes n)
+        && list_all (is_met input.now.doc.now n) line.now.guards)) }
 {
-    if !has_name(scene.doc, n, line.name) {
+    if !has_name(input.doc, n, line.name) {
         return Ok(false);
     }
-    are_met(scene, n, line.guards.as_slice(), steps)
+    are_met(input, n, line.guards.as_slice(), steps)
 }
 
 /// Records what rows pick that end at an element or at an attribute of it.
 fn pick_here<L: Ledger>(
-    scene: &Scene<'_, '_>,
+    input: &WalkInput<'_, '_>,
     rows: &[FoundRow],
     position: &Position<'_>,
     finds: &mut Finds,
     steps: &mut Steps<L>,
 ) -> Result<(), AllocError>
-    requires { position.now.node < length scene.now.doc.now.nodes }
-    ensures { OnOk result (finds.new ≡ put_all finds.old (spec.found_here scene.now.doc.now position.now.around.now position.now.node rows.now)) }
+    requires { position.now.node < length input.now.doc.now.nodes }
+    ensures { OnOk result (finds.new ≡ put_all finds.old (spec.found_here input.now.doc.now position.now.around.now position.now.node rows.now)) }
 {
     if rows.is_empty() {
         return Ok(());
     }
-    if is_blank_at(scene.alloc, scene.doc, position.node, steps)? {
+    if is_blank_at(input.alloc, input.doc, position.node, steps)? {
         return Ok(());
     }
     'rows: for row in rows {
-        pick_row(scene, row, position, finds, steps)?;
+        pick_row(input, row, position, finds, steps)?;
     }
     Ok(())
 }
 
 fn pick_row<L: Ledger>(
-    scene: &Scene<'_, '_>,
+    input: &WalkInput<'_, '_>,
     row: &FoundRow,
     position: &Position<'_>,
     finds: &mut Finds,
     steps: &mut Steps<L>,
 ) -> Result<(), AllocError>
-    requires { position.now.node < length scene.now.doc.now.nodes }
-    ensures { OnOk result (finds.new ≡ put_all finds.old (spec.found_in_row scene.now.doc.now position.now.around.now position.now.node row.now)) }
+    requires { position.now.node < length input.now.doc.now.nodes }
+    ensures { OnOk result (finds.new ≡ put_all finds.old (spec.found_in_row input.now.doc.now position.now.around.now position.now.node row.now)) }
 {
     match row.end {
         End::Element => {
             finds.put(find_of(row, position))?;
             Ok(())
         }
-        End::Attribute => pick_attributes(scene, row, position, finds, steps),
+        End::Attribute => pick_attributes(input, row, position, finds, steps),
     }
 }
 
 fn pick_attributes<L: Ledger>(
-    scene: &Scene<'_, '_>,
+    input: &WalkInput<'_, '_>,
     row: &FoundRow,
     position: &Position<'_>,
     finds: &mut Finds,
     steps: &mut Steps<L>,
 ) -> Result<(), AllocError>
-    requires { position.now.node < length scene.now.doc.now.nodes }
-    ensures { OnOk result (finds.new ≡ put_all finds.old (spec.found_attributes scene.now.doc.now position.now.around.now position.now.node row.now)) }
+    requires { position.now.node < length input.now.doc.now.nodes }
+    ensures { OnOk result (finds.new ≡ put_all finds.old (spec.found_attributes input.now.doc.now position.now.around.now position.now.node row.now)) }
 {
-    chains_lead_on(scene.doc);
-    let mut at = scene.doc.first_attribute(position.node, steps);
+    chains_lead_on(input.doc);
+    let mut at = input.doc.first_attribute(position.node, steps);
     'attributes: while let Some(m) = at {
         let attribute = Position {
             node: m,
             around: position.around,
         };
-        pick_attribute(scene, row, &attribute, finds, steps)?;
-        at = scene.doc.next_attribute(m, steps);
+        pick_attribute(input, row, &attribute, finds, steps)?;
+        at = input.doc.next_attribute(m, steps);
     }
     Ok(())
 }
 
 fn pick_attribute<L: Ledger>(
-    scene: &Scene<'_, '_>,
+    input: &WalkInput<'_, '_>,
     row: &FoundRow,
     position: &Position<'_>,
     finds: &mut Finds,
     steps: &mut Steps<L>,
 ) -> Result<(), AllocError>
-    requires { position.now.node < length scene.now.doc.now.nodes }
-    ensures { OnOk result (finds.new ≡ put_all finds.old (spec.found_attribute scene.now.doc.now position.now.around.now row.now position.now.node)) }
+    requires { position.now.node < length input.now.doc.now.nodes }
+    ensures { OnOk result (finds.new ≡ put_all finds.old (spec.found_attribute input.now.doc.now position.now.around.now row.now position.now.node)) }
 {
-    if !has_name(scene.doc, position.node, row.attribute) {
+    if !has_name(input.doc, position.node, row.attribute) {
         return Ok(());
     }
-    if is_blank_at(scene.alloc, scene.doc, position.node, steps)? {
+    if is_blank_at(input.alloc, input.doc, position.node, steps)? {
         return Ok(());
     }
     finds.put(find_of(row, position))?;

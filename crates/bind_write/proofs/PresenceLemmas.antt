@@ -20,7 +20,7 @@ use Rattle.bind_rows.specs.Added.{is_typed}
 use Rattle.bind_meaning.specs.Values.{form_for}
 use Rattle.bind_meaning.specs.Writing.{formed, if_due, filled, has_slots, of_form, term_text}
 use Rattle.bind_write.specs.Sources.{HasSameValues}
-use Rattle.bind_write.specs.Holding.{has_filler}
+use Rattle.bind_write.specs.Holding.{has_placeholder}
 
 -- ---- what is kept of entries
 
@@ -49,16 +49,16 @@ no-value presence term c none es known = ap (option_map (λ (e : Entry). e.value
 
 -- nothing is written then
 
-no-filler : (w : Written) (es : List Entry) (c : Context) → has_filler w ≡ false → filled w es c ≡ None
-no-filler written.Always es c h = refl
-no-filler written.Never es c h = refl
-no-filler written.IfIban es c h = refl
-no-filler written.IfNotIban es c h = refl
-no-filler written.IfScheme es c h = refl
-no-filler written.IfNoScheme es c h = refl
-no-filler (written.OrFiller filler) es c h = absurd (false≢true (sym h))
-no-filler written.VatTotal es c h = refl
-no-filler written.AccountingVatTotal es c h = refl
+no-placeholder : (w : Written) (es : List Entry) (c : Context) → has_placeholder w ≡ false → filled w es c ≡ None
+no-placeholder written.Always es c h = refl
+no-placeholder written.Never es c h = refl
+no-placeholder written.IfIban es c h = refl
+no-placeholder written.IfNotIban es c h = refl
+no-placeholder written.IfScheme es c h = refl
+no-placeholder written.IfNoScheme es c h = refl
+no-placeholder (written.OrPlaceholder placeholder) es c h = absurd (false≢true (sym h))
+no-placeholder written.VatTotal es c h = refl
+no-placeholder written.AccountingVatTotal es c h = refl
 
 untyped : (typed slots : Bool) (of : Value → Option Value) (o : Option Value) → o ≡ None
     → ◌≡◌ {A = Option Value} (elim typed [ true ↦ elim slots [ true ↦ option_and_then of o | false ↦ None ] | false ↦ o ]) None
@@ -66,14 +66,14 @@ untyped true true of o e = ap (option_and_then of) e
 untyped true false of o e = refl
 untyped false slots of o e = e
 
-pub no-text : (row : Row) (es : List Entry) (term : Term) (c : Context) → value_in es term c ≡ None → has_filler row.written ≡ false →
+pub no-text : (row : Row) (es : List Entry) (term : Term) (c : Context) → value_in es term c ≡ None → has_placeholder row.written ≡ false →
     term_text row es term c ≡ None
 no-text row es term c none plain =
     ap (λ o. elim o [ None ↦ filled row.written es c | Some value ↦ if_due row.written es term c (formed (form_for row.form term) es c value) ])
     (untyped (is_typed (form_for row.form term)) (has_slots row c) (of_form (form_for row.form term)) (value_in es term c) none)
-    ∙ no-filler row.written es c plain
+    ∙ no-placeholder row.written es c plain
 
 -- the presence is that of a run which has the values of all entries in the context
 pub absent : (row : Row) (es run : List Entry) (presence : Presence) (term : Term) (c : Context) → AreKnown presence (map seat_of run) → HasSameValues es run c
-    → may_have presence term ≡ false → has_filler row.written ≡ false → term_text row es term c ≡ None
+    → may_have presence term ≡ false → has_placeholder row.written ≡ false → term_text row es term c ≡ None
 absent row es run presence term c known same none plain = no-text row es term c (sym (same term) ∙ no-value presence term c none run known) plain

@@ -16,7 +16,7 @@ use Rattle.bind_rows.specs.declared.rows.Row.{Row}
 use Rattle.bind_rows.specs.declared.rows.Step.{Step}
 use Rattle.bind_table.specs.declared.lines.Line.{Line}
 use Rattle.bind_table.specs.Lines.{Plan, Cell, nothing, a_line, flat, plan_of}
-use Rattle.bind_table.specs.Laid.{is_laid, is_laid_plan, all_writable, is_declared, are_distinct, element_numbers, all_end_apart}
+use Rattle.bind_table.specs.Laid.{is_writable, is_writable_plan, all_writable, is_declared, are_distinct, element_numbers, all_end_apart}
 use Rattle.bind_rows.specs.Namespaces.{declarations_of, declared_by}
 use Rattle.bind_meaning.specs.Trees as trees
 use Rattle.bind_meaning.specs.Trees.{document_of}
@@ -88,14 +88,14 @@ both : (a b : Bool) → (a && b) ≡ true → (a ≡ true) × (b ≡ true)
 both true b e = (refl, e)
 both false b e = cc
 
-one_root-of : (rows : List Row) (plan : Plan) → plan_of rows ≡ plan → is_laid_plan plan ≡ true → OneRoot rows
+one_root-of : (rows : List Row) (plan : Plan) → plan_of rows ≡ plan → is_writable_plan plan ≡ true → OneRoot rows
 one_root-of rows nothing p e = cc
 one_root-of rows (a_line s cs inside (a_line t others within rest)) p e = cc
 one_root-of rows (a_line s cs inside nothing) p e =
     let h = both (are_distinct (s.number ∷ element_numbers inside)) _ e in
     record { s = s; cs = cs; inside = inside; plan_is = p; writable = (both (all_end_apart (a_line s cs inside nothing)) _ h.1).1 }
 
-pub one_root : (rows : List Row) → is_laid rows ≡ true → OneRoot rows
+pub one_root : (rows : List Row) → is_writable rows ≡ true → OneRoot rows
 one_root rows e = one_root-of rows (plan_of rows) refl e
 
 pub root_plan : (rows : List Row) (lines : List Line) (r : OneRoot rows) → lines ≡ flat (plan_of rows) → IsPlanOf rows lines (a_line r.s r.cs r.inside nothing)

@@ -170,7 +170,7 @@ module _ (es run : List Entry) (c : Context) (same : HasSameValues es run c) whe
   formed-same forms.PlainDate value = refl
   formed-same forms.DueDateTypeCode value = refl
   formed-same forms.CodedNote value = ap (λ code. coded_note code (spelled value)) (same subject_code)
-  formed-same (forms.Typed letter) value = refl
+  formed-same (forms.Typed data_type) value = refl
   formed-same forms.TypedPlainDate value = refl
 
   due-same : (rule : Written) (term : Term) (text : List ℕ) → if_due rule run term c text ≡ if_due rule es term c text
@@ -180,7 +180,7 @@ module _ (es run : List Entry) (c : Context) (same : HasSameValues es run c) whe
   due-same written.IfNotIban term text = refl
   due-same written.IfScheme term text = ap (λ value. if_so (is_some value) text) (same (scheme_of term))
   due-same written.IfNoScheme term text = ap (λ value. if_so (is_none value) text) (same (scheme_of term))
-  due-same (written.OrFiller filler) term text = refl
+  due-same (written.OrPlaceholder placeholder) term text = refl
   due-same written.VatTotal term text = refl
   due-same written.AccountingVatTotal term text = refl
 
@@ -191,7 +191,7 @@ module _ (es run : List Entry) (c : Context) (same : HasSameValues es run c) whe
   filled-same written.IfNotIban = refl
   filled-same written.IfScheme = refl
   filled-same written.IfNoScheme = refl
-  filled-same (written.OrFiller filler) = ap (λ value. if_so (is_some value) filler.text) (same filler.beside)
+  filled-same (written.OrPlaceholder placeholder) = ap (λ value. if_so (is_some value) placeholder.text) (same placeholder.beside)
   filled-same written.VatTotal = refl
   filled-same written.AccountingVatTotal = refl
 

@@ -66,7 +66,7 @@ plain_form local forms.Model e = refl
 plain_form local forms.PlainDate e = refl
 plain_form local forms.DueDateTypeCode e = refl
 plain_form local forms.CodedNote e = cc
-plain_form local (forms.Typed letter) e = refl
+plain_form local (forms.Typed data_type) e = refl
 plain_form local forms.TypedPlainDate e = refl
 
 pub row-plain : (rows : List Row) (k : ℕ) (row : Row) (local : List ℕ) → list_all has_plain_attribute rows ≡ true → Some row ≡ slice_get rows k →

@@ -15,16 +15,16 @@ use Rattle.bind_meaning.specs.Trees.{line_holds}
 use Rattle.bind_meaning.specs.Trees as trees
 
 -- Something is written where the row's term has no value.
-abbrev pub has_filler : Written → Bool
-has_filler written.Always = false
-has_filler written.Never = false
-has_filler written.IfIban = false
-has_filler written.IfNotIban = false
-has_filler written.IfScheme = false
-has_filler written.IfNoScheme = false
-has_filler (written.OrFiller filler) = true
-has_filler written.VatTotal = false
-has_filler written.AccountingVatTotal = false
+abbrev pub has_placeholder : Written → Bool
+has_placeholder written.Always = false
+has_placeholder written.Never = false
+has_placeholder written.IfIban = false
+has_placeholder written.IfNotIban = false
+has_placeholder written.IfScheme = false
+has_placeholder written.IfNoScheme = false
+has_placeholder (written.OrPlaceholder placeholder) = true
+has_placeholder written.VatTotal = false
+has_placeholder written.AccountingVatTotal = false
 
 -- Each cell is the row of its number.
 abbrev pub IsCellOf : List Row → Cell → Type 0

@@ -27,7 +27,7 @@ is_note forms.Model = false
 is_note forms.PlainDate = false
 is_note forms.DueDateTypeCode = false
 is_note forms.CodedNote = true
-is_note (forms.Typed letter) = false
+is_note (forms.Typed data_type) = false
 is_note forms.TypedPlainDate = false
 
 abbrev pub is_plain_leaf : Leaf → Form → Bool
@@ -36,7 +36,7 @@ is_plain_leaf (leaves.Attribute local) forms.Model = true
 is_plain_leaf (leaves.Attribute local) forms.PlainDate = true
 is_plain_leaf (leaves.Attribute local) forms.DueDateTypeCode = true
 is_plain_leaf (leaves.Attribute local) forms.CodedNote = false
-is_plain_leaf (leaves.Attribute local) (forms.Typed letter) = true
+is_plain_leaf (leaves.Attribute local) (forms.Typed data_type) = true
 is_plain_leaf (leaves.Attribute local) forms.TypedPlainDate = true
 
 abbrev pub has_plain_attribute : Row → Bool

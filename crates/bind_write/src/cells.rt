@@ -17,7 +17,7 @@ use bind_rows::{Content, Leaf, Namespace, Row, Step, Written};
 use bind_table::Line;
 use inv_base::{Sink, Txt};
 use inv_terms::Value;
-use term_table::{Letter, ROOT, Term};
+use term_table::{DataType, ROOT, Term};
 use xml_write::{WriteFault, Writer};
 
 const INVOICE_CURRENCY: Term = Term { number: 5, part: 0 };
@@ -51,7 +51,7 @@ fn is_amount(row: &Row) -> bool
     match row.content {
         Content::Constant(_) => false,
         Content::Term(term) => match type_of(form_for(row.form, term), term) {
-            Some(Letter::A) => true,
+            Some(DataType::A) => true,
             _ => false,
         },
     }

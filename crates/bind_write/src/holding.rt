@@ -15,14 +15,14 @@ use bind_rows::{Content, Row, Written};
 use bind_table::Line;
 use term_table::{Context, Term};
 
-fn has_filler(row: &Row) -> bool
-    ensures { result ≡ spec.has_filler row.now.written }
+fn has_placeholder(row: &Row) -> bool
+    ensures { result ≡ spec.has_placeholder row.now.written }
 {
-    matches!(row.written, Written::OrFiller(_))
+    matches!(row.written, Written::OrPlaceholder(_))
 }
 
 /// Whether it is plain without a look at the entries that a row writes nothing of its term in the context: no such term stands in the
-/// context's occurrence, and the row has no filler. Where it isn't plain, it may still write nothing.
+/// context's occurrence, and the row has no placeholder. Where it isn't plain, it may still write nothing.
 fn is_absent(source: &Source<'_>, row: &Row, term: Term, context: Context) -> bool
     requires source { sources.IsSource source.now }
     requires context { sources.IsAround source.now.context context }
@@ -34,7 +34,7 @@ fn is_absent(source: &Source<'_>, row: &Row, term: Term, context: Context) -> bo
     if source.presence.may_have(term) {
         return false;
     }
-    !has_filler(row)
+    !has_placeholder(row)
 }
 
 /// What a row writes: its constant, or what its term has in the context.

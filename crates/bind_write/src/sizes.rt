@@ -1,6 +1,6 @@
 ghost use Rattle.std.specs.Prelude.{◌≡◌, true};
 ghost use Rattle.std.specs.List.{list_all};
-ghost use Rattle.bind_table.specs.Laid.{is_laid};
+ghost use Rattle.bind_table.specs.Laid.{is_writable};
 ghost use Rattle.bind_write.specs.Sources.{has_plain_attribute};
 ghost use Rattle.bind_write.specs.Documents as spec;
 
@@ -13,7 +13,7 @@ use xml_write::{Gauge, Nowhere, gauged_calls_are_sizes};
 /// How large the document of an invoice by a table is, which isn't written: its bytes, those of its longest tag, and its nodes. It takes
 /// no memory.
 pub fn measure(i: &Invoice, b: &Binding) -> Gauge
-    requires laid { is_laid b.now ≡ true }
+    requires laid { is_writable b.now ≡ true }
     requires notes { list_all has_plain_attribute b.now ≡ true }
     ensures { spec.HasSizes b.now i.now result }
 {

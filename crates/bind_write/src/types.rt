@@ -6,34 +6,34 @@ ghost use Rattle.bind_meaning.specs.Writing as writing;
 
 use crate::looking::value_of;
 use bind_meaning::form_for;
-use bind_rows::{Row, letter_of_form};
+use bind_rows::{Row, data_type_of_form};
 use inv_terms::{Entry, Value};
-use term_table::{Context, Group, Letter, Slot, Term};
+use term_table::{Context, DataType, Group, Slot, Term};
 
 /// Whether the value has the type.
-pub fn is_of_type(letter: Letter, value: &Value) -> bool
-    ensures { result ≡ writing.is_of_type letter value.now }
+pub fn is_of_type(data_type: DataType, value: &Value) -> bool
+    ensures { result ≡ writing.is_of_type data_type value.now }
 {
-    match letter {
-        Letter::T => matches!(value, Value::Text(_)),
-        Letter::I => matches!(value, Value::Identifier(_)),
-        Letter::C => matches!(value, Value::Code(_)),
-        Letter::A => matches!(value, Value::Amount(_)),
-        Letter::Q => matches!(value, Value::Quantity(_)),
-        Letter::P => matches!(value, Value::Percent(_)),
-        Letter::D => matches!(value, Value::Date(_)),
-        Letter::B => matches!(value, Value::Base64(_)),
+    match data_type {
+        DataType::T => matches!(value, Value::Text(_)),
+        DataType::I => matches!(value, Value::Identifier(_)),
+        DataType::C => matches!(value, Value::Code(_)),
+        DataType::A => matches!(value, Value::Amount(_)),
+        DataType::Q => matches!(value, Value::Quantity(_)),
+        DataType::P => matches!(value, Value::Percent(_)),
+        DataType::D => matches!(value, Value::Date(_)),
+        DataType::B => matches!(value, Value::Base64(_)),
     }
 }
 
 /// The value, if there is one and it has the type.
-fn of_type<'a>(letter: Letter, value: Option<&'a Value>) -> Option<&'a Value>
-    ensures { option_copied result ≡ option_and_then (writing.of_type letter) (option_copied value.entry) }
+fn of_type<'a>(data_type: DataType, value: Option<&'a Value>) -> Option<&'a Value>
+    ensures { option_copied result ≡ option_and_then (writing.of_type data_type) (option_copied value.entry) }
 {
     match value {
         None => None,
         Some(value) => {
-            if is_of_type(letter, value) {
+            if is_of_type(data_type, value) {
                 Some(value)
             } else {
                 None
@@ -67,11 +67,11 @@ pub(crate) fn value_for<'a>(
     requires { IsInOrder (map seat_of entries.now) }
     ensures { option_copied result ≡ writing.value_for row.now entries.now term context }
 {
-    match letter_of_form(form_for(row.form, term)) {
+    match data_type_of_form(form_for(row.form, term)) {
         None => value_of(entries, term, context),
-        Some(letter) => {
+        Some(data_type) => {
             if has_slots(row, context) {
-                of_type(letter, value_of(entries, term, context))
+                of_type(data_type, value_of(entries, term, context))
             } else {
                 None
             }

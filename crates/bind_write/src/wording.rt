@@ -36,7 +36,7 @@ pub(crate) enum Plain<'a> {
     /// A day without dashes.
     PlainDate(Day),
     DueDate(DueDateType),
-    /// A constant or a filler.
+    /// A constant or a placeholder.
     Text(&'a Txt),
 }
 
@@ -242,24 +242,24 @@ fn is_due(
         Written::IfNotIban => !is_iban(wording),
         Written::IfScheme => stands(entries, scheme_of(term), context),
         Written::IfNoScheme => !stands(entries, scheme_of(term), context),
-        Written::OrFiller(_) => true,
+        Written::OrPlaceholder(_) => true,
         Written::VatTotal => true,
         Written::AccountingVatTotal => true,
     }
 }
 
-/// The filler of a row, where the term beside it stands.
-fn filler<'a>(row: &'a Row, entries: &[Entry], context: Context) -> Option<Wording<'a>>
+/// The placeholder of a row, where the term beside it stands.
+fn placeholder<'a>(row: &'a Row, entries: &[Entry], context: Context) -> Option<Wording<'a>>
     requires { IsInOrder (map listing.seat_of entries.now) }
     ensures text { option_map spec.wording_text result ≡ writing.filled row.now.written entries.now context }
     ensures plain { spec.IsPlain result }
 {
     match &row.written {
-        Written::OrFiller(filler) => {
-            if stands(entries, filler.beside, context) {
+        Written::OrPlaceholder(placeholder) => {
+            if stands(entries, placeholder.beside, context) {
                 Some(Wording {
                     subject: None,
-                    text: Plain::Text(&filler.text),
+                    text: Plain::Text(&placeholder.text),
                 })
             } else {
                 None
@@ -281,7 +281,7 @@ pub(crate) fn term_wording<'a>(
     ensures plain { sources.is_note row.now.form ≡ false → spec.IsPlain result }
 {
     match value_for(row, entries, term, context) {
-        None => filler(row, entries, context),
+        None => placeholder(row, entries, context),
         Some(value) => value_wording(row, entries, term, context, value),
     }
 }

@@ -13,7 +13,7 @@ use Rattle.term_table.specs.declared.contexts.Context.{Context}
 use Rattle.term_table.specs.Contexts.{root_context, outer_context, slot_group, same_groups}
 use Rattle.term_table.proofs.GroupLemmas.{same_group_itself}
 use Rattle.term_table.specs.SemanticModel.{same_term}
-use Rattle.term_table.specs.Rows.{letter_of}
+use Rattle.term_table.specs.Rows.{data_type_of}
 use Rattle.inv_terms.specs.declared.values.Value.{Value}
 use Rattle.inv_terms.specs.declared.entries.Entry.{Entry}
 use Rattle.inv_terms.specs.Values.{trimmed, spelled}
@@ -44,55 +44,55 @@ use Rattle.binding_laws.proofs.PlainLemmas.{IsReachable, spots-reach, context-th
 record IsOfAttribute {X : Type 0} (f : Row → Term → List ℕ → List X) (row : Row) (x : X) : Type 0 where
   term : Term
   local : List ℕ
-  letter : is_trimmed (letter_of term) ≡ true
+  data_type : is_trimmed (data_type_of term) ≡ true
   among : Among x (f row term local)
 
 of-attributes : {X : Type 0} (f : Row → Term → List ℕ → List X) (row : Row) (x : X) → Among x (at_attributes f row) → IsOfAttribute f row x
 of-attributes {X} f row x a = go row.content row.leaf a
   where
-    by-letter : (term : Term) (local : List ℕ) (b : Bool) → is_trimmed (letter_of term) ≡ b → Among x (elim b [ true ↦ f row term local | false ↦ [] ]) →
+    by-data_type : (term : Term) (local : List ℕ) (b : Bool) → is_trimmed (data_type_of term) ≡ b → Among x (elim b [ true ↦ f row term local | false ↦ [] ]) →
         IsOfAttribute f row x
-    by-letter term local true e m = record { term = term; local = local; letter = e; among = m }
-    by-letter term local false e m = absurd m
+    by-data_type term local true e m = record { term = term; local = local; data_type = e; among = m }
+    by-data_type term local false e m = absurd m
 
     go : (content : Content) (leaf : Leaf) → Among x (elim content [
       | (contents.Term term) ↦ elim leaf [
         | leaves.Element ↦ []
-        | (leaves.Attribute local) ↦ elim (is_trimmed (letter_of term)) [ true ↦ f row term local | false ↦ [] ]
+        | (leaves.Attribute local) ↦ elim (is_trimmed (data_type_of term)) [ true ↦ f row term local | false ↦ [] ]
       ]
       | (contents.Constant text) ↦ []
     ])
         → IsOfAttribute f row x
     go (contents.Term term) leaves.Element m = absurd m
-    go (contents.Term term) (leaves.Attribute local) m = by-letter term local (is_trimmed (letter_of term)) refl m
+    go (contents.Term term) (leaves.Attribute local) m = by-data_type term local (is_trimmed (data_type_of term)) refl m
     go (contents.Constant text) leaf m = absurd m
 
-unlike-letter : (rows : List Row) (u : Unlike) → Among u (known_of rows).unlike → is_trimmed (letter_of u.term) ≡ true
-unlike-letter rows u a =
+unlike-data_type : (rows : List Row) (u : Unlike) → Among u (known_of rows).unlike → is_trimmed (data_type_of u.term) ≡ true
+unlike-data_type rows u a =
     let w = of-flat_map (at_attributes (unlike_of rows)) u rows a in
     let v = of-attributes (unlike_of rows) w.0 u w.1.1 in
     let y = of-flat_map (λ (other : Row). map (λ text. record { term = v.term; text = text }) (texts_asked v.local other.path w.0.path)) u rows v.among in
     let z = of-map (λ text. record { term = v.term; text = text }) u (texts_asked v.local y.0.path w.0.path) y.1.1 in
-    ap (λ (x : Unlike). is_trimmed (letter_of x.term)) (sym z.1.1) ∙ v.letter
+    ap (λ (x : Unlike). is_trimmed (data_type_of x.term)) (sym z.1.1) ∙ v.data_type
 
 record IsTogether (x : Together) : Type 0 where
-  letter : is_trimmed (letter_of x.part) ≡ true
+  data_type : is_trimmed (data_type_of x.part) ≡ true
   nowhere : stands_nowhere_else x.term (Some x.group) None ≡ true
 
 together-is : (rows : List Row) (x : Together) → Among x (known_of rows).together → IsTogether x
 together-is rows x a =
     let w = of-flat_map (at_attributes (together_of rows)) x rows a in
     let v = of-attributes (together_of rows) w.0 x w.1.1 in
-    by-group w.0 v.term v.local v.letter w.0.outer v.among
+    by-group w.0 v.term v.local v.data_type w.0.outer v.among
   where
-    by-main : (row : Row) (group : Group) (part : Term) → is_trimmed (letter_of part) ≡ true → (main : Row) (content : Content)
+    by-main : (row : Row) (group : Group) (part : Term) → is_trimmed (data_type_of part) ≡ true → (main : Row) (content : Content)
         → Among x (elim content [
           | (contents.Term term) ↦ elim (is_main_of row group main term) [ true ↦ record { group = group; term = term; part = part } ∷ [] | false ↦ [] ]
           | (contents.Constant text) ↦ []
         ])
         → IsTogether x
-    by-main row group part letter main (contents.Constant text) m = absurd m
-    by-main row group part letter main (contents.Term term) m = go (is_main_of row group main term) refl m
+    by-main row group part data_type main (contents.Constant text) m = absurd m
+    by-main row group part data_type main (contents.Term term) m = go (is_main_of row group main term) refl m
       where
         go : (b : Bool) → is_main_of row group main term ≡ b → Among x (elim b [ true ↦ record { group = group; term = term; part = part } ∷ [] | false ↦ [] ])
             → IsTogether x
@@ -102,20 +102,21 @@ together-is rows x a =
             let a = both-true (is_element main.leaf) _ e in
             let b = both-true (is_of_group group main) _ a.1 in
             let d = both-true (pointwise same_step main.path row.path) (stands_nowhere_else term (Some group) None) b.1 in
-            subst IsTogether same (record { letter = letter; nowhere = d.1 })
+            subst IsTogether same (record { data_type = data_type; nowhere = d.1 })
 
-    by-test : (row : Row) (group : Group) (part : Term) → is_trimmed (letter_of part) ≡ true → (b : Bool) →
+    by-test : (row : Row) (group : Group) (part : Term) → is_trimmed (data_type_of part) ≡ true → (b : Bool) →
         Among x (elim b [ true ↦ flat_map (together_by row group part) rows | false ↦ [] ]) → IsTogether x
-    by-test row group part letter false m = absurd m
-    by-test row group part letter true m = let w = of-flat_map (together_by row group part) x rows m in by-main row group part letter w.0 w.0.content w.1.1
+    by-test row group part data_type false m = absurd m
+    by-test row group part data_type true m = let w = of-flat_map (together_by row group part) x rows m in by-main row group part data_type w.0 w.0.content
+        w.1.1
 
-    by-group : (row : Row) (part : Term) (local : List ℕ) → is_trimmed (letter_of part) ≡ true → (o : Option Group) → Among x (elim o [
+    by-group : (row : Row) (part : Term) (local : List ℕ) → is_trimmed (data_type_of part) ≡ true → (o : Option Group) → Among x (elim o [
       | None ↦ []
       | Some group ↦ elim (is_of_group group row && is_presence_asked local row.path) [ true ↦ flat_map (together_by row group part) rows | false ↦ [] ]
     ])
         → IsTogether x
-    by-group row part local letter None m = absurd m
-    by-group row part local letter (Some group) m = by-test row group part letter (is_of_group group row && is_presence_asked local row.path) m
+    by-group row part local data_type None m = absurd m
+    by-group row part local data_type (Some group) m = by-test row group part data_type (is_of_group group row && is_presence_asked local row.path) m
 
 -- ---- it is known
 
@@ -145,7 +146,7 @@ module _ (law : Laws) (rows : List Row) (es : List Entry) (invoice : IsInvoice e
       let e : Entry = record { context = d; term = u.term; value = v } in
       let none = all-is (λ (x : Unlike). not (same_term u.term x.term && bytes_eq x.text (spelled v))) (known_of rows).unlike u
       (both-true (is_other_value (known_of rows) e) (has_parts (known_of rows) es e) (as_known e (known-entry u.term d v at))).0 a in
-      let text : u.text ≡ spelled v = sym same ∙ trimmed-as-it-is law u.term v (unlike-letter rows u a) (fits u.term d v at) in
+      let text : u.text ≡ spelled v = sym same ∙ trimmed-as-it-is law u.term v (unlike-data_type rows u a) (fits u.term d v at) in
       false≢true (sym (not-true (same_term u.term u.term && bytes_eq u.text (spelled v)) none) ∙
       (λ i. same-term-itself u.term i && (bytes_eq-Decides u.text (spelled v)).1 text i))
 
@@ -153,7 +154,7 @@ module _ (law : Laws) (rows : List Row) (es : List Entry) (invoice : IsInvoice e
       is_full (trimmed (spelled v)) ≡ true
   full-part x a d v at =
       let f = fits x.part d v at in
-      ap is_full (trimmed-as-it-is law x.part v (together-is rows x a).letter f) ∙
+      ap is_full (trimmed-as-it-is law x.part v (together-is rows x a).data_type f) ∙
       back-full law forms.Model x.part es d v (whole-back es forms.Model d v refl refl) f
 
   part-with : (x : Together) → Among x (known_of rows).together → (d : Context) → Among d (spots es root_context (Some x.group)) → (v : Value) →

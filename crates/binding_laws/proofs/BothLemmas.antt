@@ -7,19 +7,19 @@ use Rattle.std.proofs.lemmas.Bool.{false≢true}
 use Rattle.std.proofs.lemmas.Bool.Decides.{nat_tests}
 use Rattle.inv_base.specs.Tree.{document_nodes}
 use Rattle.term_table.specs.declared.terms.Term.{Term}
-use Rattle.term_table.specs.declared.terms.Letter.TheVariants as letters
+use Rattle.term_table.specs.declared.terms.DataType.TheVariants as data_types
 use Rattle.term_table.specs.declared.contexts.Context.{Context}
 use Rattle.term_table.specs.Contexts.{root_context}
 use Rattle.term_table.specs.SemanticModel.{same_term, terms}
 use Rattle.term_table.proofs.SeatLemmas.{same_term_is}
-use Rattle.term_table.specs.Rows.{letter_of}
+use Rattle.term_table.specs.Rows.{data_type_of}
 use Rattle.inv_terms.specs.declared.values.Value.{Value}
 use Rattle.inv_terms.specs.declared.entries.Entry.{Entry}
 use Rattle.inv_terms.specs.Values.{is_blank, trimmed, spelled}
 use Rattle.inv_terms.specs.Listing.{IsInvoice, value_in}
 use Rattle.bind_rows.specs.declared.rows.Content.TheVariants as contents
 use Rattle.bind_rows.specs.declared.rows.Row.{Row}
-use Rattle.bind_rows.specs.declared.rows.Filler.{Filler}
+use Rattle.bind_rows.specs.declared.rows.Placeholder.{Placeholder}
 use Rattle.bind_rows.specs.declared.rows.Form.{Form}
 use Rattle.bind_rows.specs.declared.rows.Form.TheVariants as forms
 use Rattle.bind_rows.specs.declared.rows.Written.TheVariants as written
@@ -32,7 +32,8 @@ use Rattle.bind_meaning.specs.Writing.{context_for, formed, if_due, row_text, te
 use Rattle.bind_meaning.specs.Trees.{is_amount, attribute, document_of, constant_or_text, is_at_element, is_vat_total}
 use Rattle.binding_laws.specs.Apart.{is_at_attribute, holds_none}
 use Rattle.binding_laws.specs.Plain.{is_whole, is_of_one_term, has_content, rows_at}
-use Rattle.binding_laws.specs.Covered.{is_or_filler, beside_filler, is_accounting_rule, accounting_terms_of, accounting_terms, are_pair, is_of_pair, is_pair_in}
+use Rattle.binding_laws.specs.Covered.{is_or_placeholder, beside_placeholder, is_accounting_rule, accounting_terms_of, accounting_terms, are_pair}
+use Rattle.binding_laws.specs.Covered.{is_of_pair, is_pair_in}
 use Rattle.binding_laws.specs.Covered.{currency_text, is_other_text}
 use Rattle.binding_laws.specs.Faultless.{is_in_invoice_currency, is_no_row}
 use Rattle.binding_laws.specs.Written.{Spot, values_named}
@@ -52,13 +53,13 @@ use Rattle.binding_laws.proofs.CoverLemmas.{Absent, IsTotal, IsSpreadHere, fact-
 
 -- ---- the currencies
 
-pub money-letter : letter_of invoice_currency ≡ Some letters.C
+pub money-data_type : data_type_of invoice_currency ≡ Some data_types.C
 unfolding terms
-money-letter = refl
+money-data_type = refl
 
-pub accounting-letter : letter_of accounting_currency ≡ Some letters.C
+pub accounting-data_type : data_type_of accounting_currency ≡ Some data_types.C
 unfolding terms
-accounting-letter = refl
+accounting-data_type = refl
 
 pub money-form : (form : Form) → form_for form invoice_currency ≡ forms.Model
 unfolding terms
@@ -66,7 +67,7 @@ money-form forms.Model = refl
 money-form forms.PlainDate = refl
 money-form forms.DueDateTypeCode = refl
 money-form forms.CodedNote = refl
-money-form (forms.Typed letter) = refl
+money-form (forms.Typed data_type) = refl
 money-form forms.TypedPlainDate = refl
 
 pub accounting-form : (form : Form) → form_for form accounting_currency ≡ forms.Model
@@ -75,20 +76,20 @@ accounting-form forms.Model = refl
 accounting-form forms.PlainDate = refl
 accounting-form forms.DueDateTypeCode = refl
 accounting-form forms.CodedNote = refl
-accounting-form (forms.Typed letter) = refl
+accounting-form (forms.Typed data_type) = refl
 accounting-form forms.TypedPlainDate = refl
 
 -- whether a value of the term is an amount in the form
 abbrev pub is_amount_as : Form → Term → Bool
-is_amount_as form term = elim (type_of (form_for form term) term) [ Some letters.A ↦ true | _ ↦ false ]
+is_amount_as form term = elim (type_of (form_for form term) term) [ Some data_types.A ↦ true | _ ↦ false ]
 
 no-amount : (form : Form) → is_amount_as form invoice_currency ≡ false
 unfolding terms
-no-amount form = ap (λ f. elim (type_of f invoice_currency) [ Some letters.A ↦ true | _ ↦ false ]) (money-form form)
+no-amount form = ap (λ f. elim (type_of f invoice_currency) [ Some data_types.A ↦ true | _ ↦ false ]) (money-form form)
 
 no-accounting-amount : (form : Form) → is_amount_as form accounting_currency ≡ false
 unfolding terms
-no-accounting-amount form = ap (λ f. elim (type_of f accounting_currency) [ Some letters.A ↦ true | _ ↦ false ]) (accounting-form form)
+no-accounting-amount form = ap (λ f. elim (type_of f accounting_currency) [ Some data_types.A ↦ true | _ ↦ false ]) (accounting-form form)
 
 -- a currency is no amount
 no-money : (row : Row) (term : Term) → row.content ≡ contents.Term term → is_amount row ≡ true →
@@ -137,8 +138,9 @@ module _ (law : Laws) (rows : List Row) (es : List Entry) (invoice : IsInvoice e
     shown = λ other place a. total-shown row p.own p.free rule place a;
   }
 
-  pub no-filled : (row : Row) → (is_or_filler row.written ≡ false) → (filler : Filler) → row.written ≡ written.OrFiller filler → Absent es filler.beside
-  no-filled row none filler e = absurd (false≢true (sym none ∙ ap is_or_filler e))
+  pub no-filled : (row : Row) → (is_or_placeholder row.written ≡ false) → (placeholder : Placeholder) → row.written ≡ written.OrPlaceholder placeholder
+      → Absent es placeholder.beside
+  no-filled row none placeholder e = absurd (false≢true (sym none ∙ ap is_or_placeholder e))
 
   -- what stands at the elements of the VAT total in accounting currency, is in that currency
   module _ (differ : holds_none (accounting_terms rows) es ≡ false →
@@ -233,9 +235,10 @@ module _ (law : Laws) (rows : List Row) (es : List Entry) (invoice : IsInvoice e
             (accounting-first es (values_named currency_id place.spot.attributes) v.0 v.1 (not-true (is_blank (spelled v.0)) black)
             (shown ∙ ap (λ o. values_named currency_id (elim o [ None ↦ [] | Some value ↦ attribute currency_id (spelled value) ∷ [] ])) v.1))
 
-    beside-none : (row : Row) → list_any (λ t. has_term t row) (flat_map beside_filler rows) ≡ false → (term : Term) → Among term (flat_map beside_filler rows)
+    beside-none : (row : Row) → list_any (λ t. has_term t row) (flat_map beside_placeholder rows) ≡ false → (term : Term)
+        → Among term (flat_map beside_placeholder rows)
         → has_term term row ≡ false
-    beside-none row none term a = none-is (λ t. has_term t row) (flat_map beside_filler rows) term none a
+    beside-none row none term a = none-is (λ t. has_term t row) (flat_map beside_placeholder rows) term none a
 
     -- each of the two is spread, but for the elements of the other
     first-here : IsSpreadHere law rows es invoice main p.first.term
@@ -257,7 +260,7 @@ module _ (law : Laws) (rows : List Row) (es : List Entry) (invoice : IsInvoice e
       content = p.first.there.content;
       form = p.first.there.form;
       total = inr (own-total main (accounting_terms rows) p.first.term p.rule p.first.there);
-      unfilled = λ filler e. inl (no-filled main (ap is_or_filler p.rule) filler e);
+      unfilled = λ placeholder e. inl (no-filled main (ap is_or_placeholder p.rule) placeholder e);
       outer = p.first.there.outer;
       inner = p.first.there.inner;
       context = p.first.there.context;
@@ -289,7 +292,7 @@ module _ (law : Laws) (rows : List Row) (es : List Entry) (invoice : IsInvoice e
         own = λ c own place a full. ap (λ x. is_in c x (currency_at place.spot)) p.twin_rule ∙ accounting-there place a full c own;
         shown = λ other. absurd (false≢true (sym other ∙ ap is_accounting_rule p.twin_rule));
       });
-      unfilled = λ filler e. inl (no-filled twin (ap is_or_filler p.twin_rule) filler e);
+      unfilled = λ placeholder e. inl (no-filled twin (ap is_or_placeholder p.twin_rule) placeholder e);
       outer = p.second.there.outer;
       inner = p.second.there.inner;
       context = p.second.there.context;

@@ -22,13 +22,13 @@ use Rattle.bind_rows.specs.declared.rows.Content.TheVariants as contents
 use Rattle.bind_rows.specs.declared.rows.Form.TheVariants as forms
 use Rattle.bind_rows.specs.declared.rows.Step.{Step}
 use Rattle.bind_rows.specs.declared.rows.Row.{Row}
-use Rattle.bind_rows.specs.declared.rows.Filler.{Filler}
+use Rattle.bind_rows.specs.declared.rows.Placeholder.{Placeholder}
 use Rattle.bind_rows.specs.declared.rows.Written.{Written}
 use Rattle.bind_rows.specs.declared.rows.Written.TheVariants as written
 use Rattle.bind_table.specs.Lines.{Plan, nothing, a_line, plan_of}
-use Rattle.bind_meaning.specs.Values.{said, subject_code, form_for}
+use Rattle.bind_meaning.specs.Values.{parsed, subject_code, form_for}
 use Rattle.bind_meaning.specs.Elements.{number, string_at, is_full, attributes_named}
-use Rattle.bind_meaning.specs.Picks.{Pick, has_term, has_any_term, rows_where, all_picked, is_filler, last_of, filled, leaves_of, picks_of_way, ways}
+use Rattle.bind_meaning.specs.Picks.{Pick, has_term, has_any_term, rows_where, all_picked, is_placeholder, last_of, filled, leaves_of, picks_of_way, ways}
 use Rattle.bind_meaning.specs.Picks.{nodes_picked}
 use Rattle.bind_meaning.specs.Currencies.{Currencies, invoice_currency, accounting_currency, is_in_its_currency}
 use Rattle.bind_meaning.specs.Writing.{slot_for, context_for, formed, if_so, if_due, value_for, writes_entry, term_text, filled as filled_text}
@@ -37,7 +37,7 @@ use Rattle.binding_laws.specs.Apart.{Known, unknown, stands_apart}
 use Rattle.binding_laws.specs.Plain as plain
 use Rattle.binding_laws.specs.Plain.{is_in_groups, groups_of, is_of_one_term, is_by_value, IsPlainThere, IsPlainAttributeThere, IsSpreadWith, IsSpread}
 use Rattle.binding_laws.specs.Plain.{IsSpreadAttribute, rows_at, is_written_by}
-use Rattle.binding_laws.specs.Covered.{beside_filler, is_accounting_rule}
+use Rattle.binding_laws.specs.Covered.{beside_placeholder, is_accounting_rule}
 use Rattle.binding_laws.specs.Written.{Spot, written_at, values_named}
 use Rattle.binding_laws.proofs.TreeLemmas.{Each}
 use Rattle.binding_laws.proofs.ListLemmas.{append-nil, both-true}
@@ -91,12 +91,12 @@ no-total written.IfIban h = refl
 no-total written.IfNotIban h = refl
 no-total written.IfScheme h = refl
 no-total written.IfNoScheme h = refl
-no-total (written.OrFiller filler) h = refl
+no-total (written.OrPlaceholder placeholder) h = refl
 no-total written.VatTotal h = absurd (false≢true h)
 no-total written.AccountingVatTotal h = absurd (false≢true h)
 
-no-filler : (rule : Written) → is_by_value rule ≡ true → (filler : Filler) → rule ≡ written.OrFiller filler → ⊥
-no-filler rule h filler e = false≢true (sym (ap is_by_value e) ∙ h)
+no-placeholder : (rule : Written) → is_by_value rule ≡ true → (placeholder : Placeholder) → rule ≡ written.OrPlaceholder placeholder → ⊥
+no-placeholder rule h placeholder e = false≢true (sym (ap is_by_value e) ∙ h)
 
 -- The list has at most one element.
 abbrev pub is_short : {X : Type 0} → List X → Bool
@@ -146,7 +146,7 @@ module _ (law : Laws) (rows : List Row) (es : List Entry) (invoice : IsInvoice e
     pub leaf : row.leaf ≡ leaves.Element
     pub out : (c : Currencies) → AreOwn rows es c → is_full place.spot.text ≡ true → is_in c row.written (currency_at place.spot) ≡ false
     pub no_money : (has_term invoice_currency row || has_term accounting_currency row) ≡ false
-    pub beside : (term : Term) → Among term (flat_map beside_filler rows) → has_term term row ≡ false
+    pub beside : (term : Term) → Among term (flat_map beside_placeholder rows) → has_term term row ≡ false
 
   pub no-strange : (row : Row) (place : Place) → Among place [] ⊎ Among place [] → IsStrange row place
   no-strange row place (inl a) = absurd a
@@ -159,12 +159,12 @@ module _ (law : Laws) (rows : List Row) (es : List Entry) (invoice : IsInvoice e
   pub own-among : (front own back : List Place) (place : Place) → Among place own → Among place (front ++ (own ++ back))
   own-among front own back place a = among-back place front (own ++ back) (among-front place own back a)
 
-  -- the value stands, and no value of the term is the filler
-  pub record IsKept (row : Row) (term : Term) (filler : Filler) : Type 0 where
+  -- the value stands, and no value of the term is the placeholder
+  pub record IsKept (row : Row) (term : Term) (placeholder : Placeholder) : Type 0 where
     pub stands : is_some (value_in es term root_context) ≡ true
-    pub other : (e : Entry) → Among e es → e.term ≡ term → bytes_eq (trimmed (formed (form_for row.form term) es e.context e.value)) filler.text ≡ false
+    pub other : (e : Entry) → Among e es → e.term ≡ term → bytes_eq (trimmed (formed (form_for row.form term) es e.context e.value)) placeholder.text ≡ false
 
-  -- a spread row of the term, whose filler doesn't stand if it has one
+  -- a spread row of the term, whose placeholder doesn't stand if it has one
   pub record IsSpreadHere (row : Row) (term : Term) : Type 0 where
     pub front : List Place
     pub back : List Place
@@ -175,7 +175,7 @@ module _ (law : Laws) (rows : List Row) (es : List Entry) (invoice : IsInvoice e
     pub content : row.content ≡ contents.Term term
     pub form : is_of_one_term (form_for row.form term) ≡ true
     pub total : (is_vat_total row.written ≡ false) ⊎ IsTotal row
-    pub unfilled : (filler : Filler) → row.written ≡ written.OrFiller filler → Absent es filler.beside ⊎ IsKept row term filler
+    pub unfilled : (placeholder : Placeholder) → row.written ≡ written.OrPlaceholder placeholder → Absent es placeholder.beside ⊎ IsKept row term placeholder
     pub outer : row.outer ≡ None
     pub inner : row.inner ≡ None
     pub context : plain.stands_there term None None ≡ true
@@ -193,7 +193,7 @@ module _ (law : Laws) (rows : List Row) (es : List Entry) (invoice : IsInvoice e
     pub strange : (place : Place) → Among place front ⊎ Among place back → IsStrange row place
     pub content : row.content ≡ contents.Term term
     pub total : (is_vat_total row.written ≡ false) ⊎ IsTotal row
-    pub unfilled : (filler : Filler) → row.written ≡ written.OrFiller filler → Absent es filler.beside ⊎ IsKept row term filler
+    pub unfilled : (placeholder : Placeholder) → row.written ≡ written.OrPlaceholder placeholder → Absent es placeholder.beside ⊎ IsKept row term placeholder
     pub through : (g : Group) → row.outer ≡ Some g → groups_of row.path ≡ plain.listed row.outer ++ plain.listed row.inner
     pub nested : (is_some row.outer || is_none row.inner) ≡ true
     pub single : (place : Place) → Among place (places_at rows es row.path) → is_short (spot-strings row.leaf place.spot) ≡ true
@@ -254,7 +254,7 @@ module _ (law : Laws) (rows : List Row) (es : List Entry) (invoice : IsInvoice e
     strange = no-strange row;
     content = p.content;
     total = inl (no-total row.written p.by_value);
-    unfilled = λ filler e. absurd (no-filler row.written p.by_value filler e);
+    unfilled = λ placeholder e. absurd (no-placeholder row.written p.by_value placeholder e);
     through = λ g o. p.through;
     nested = p.nested;
     single = λ place a. short-at row p.leaf place;
@@ -365,7 +365,7 @@ module _ (law : Laws) (rows : List Row) (es : List Entry) (invoice : IsInvoice e
       let w = first-way path b.0 in
       (w.0, (b.0, b.1, w.1))
 
-  -- no filler stands in place of its value
+  -- no placeholder stands in place of its value
   spread-unfilled : (row : Row) (term : Term) → IsSpreadHere row term → (d : Context) → values.IsUnfilled es row term (context_for row d)
   spread-unfilled row term p d = go row.written refl
     where
@@ -377,8 +377,8 @@ module _ (law : Laws) (rows : List Row) (es : List Entry) (invoice : IsInvoice e
       go written.IfNotIban e = inl refl
       go written.IfScheme e = inl refl
       go written.IfNoScheme e = inl refl
-      go (written.OrFiller filler) e = elim (p.unfilled filler e) [
-        | inl absent ↦ inl (ap (λ o. if_so (is_some o) filler.text) (no-value es filler.beside absent (context_for row d)))
+      go (written.OrPlaceholder placeholder) e = elim (p.unfilled placeholder e) [
+        | inl absent ↦ inl (ap (λ o. if_so (is_some o) placeholder.text) (no-value es placeholder.beside absent (context_for row d)))
         | inr kept ↦ inr (ap is_some (as-modelled row es term (context_for row d) (one-untyped (form_for row.form term) p.form))
             ∙ (ap (λ c. is_some (value_in es term c)) (cut-at-root row p.outer p.inner d) ∙ kept.stands))
       ]
@@ -396,7 +396,7 @@ module _ (law : Laws) (rows : List Row) (es : List Entry) (invoice : IsInvoice e
     content = p.content;
     form = p.form;
     total = inl (no-total row.written p.by_value);
-    unfilled = λ filler e. absurd (no-filler row.written p.by_value filler e);
+    unfilled = λ placeholder e. absurd (no-placeholder row.written p.by_value placeholder e);
     outer = p.outer;
     inner = p.inner;
     context = p.context;
@@ -585,7 +585,7 @@ module _ (law : Laws) (rows : List Row) (es : List Entry) (invoice : IsInvoice e
     strange = no-strange row;
     content = p.content;
     total = inl (ap is_vat_total p.written);
-    unfilled = λ filler e. absurd (no-filler row.written (ap is_by_value p.written) filler e);
+    unfilled = λ placeholder e. absurd (no-placeholder row.written (ap is_by_value p.written) placeholder e);
     through = λ g o. ap groups_of p.path ∙ (p.beside.through ∙ (λ i. plain.listed ((sym p.outer) i) ++ plain.listed ((sym p.inner) i)));
     nested = (λ i. is_some (p.outer i) || is_none (p.inner i)) ∙ p.beside.nested;
     single = λ place a. short-beside row term p.local p.leaf place place.spot.context (values-at place a);
@@ -687,7 +687,7 @@ module _ (law : Laws) (rows : List Row) (es : List Entry) (invoice : IsInvoice e
     strange = no-strange row;
     content = p.content;
     total = inl (ap is_vat_total p.written);
-    unfilled = λ filler e. absurd (no-filler row.written (ap is_by_value p.written) filler e);
+    unfilled = λ placeholder e. absurd (no-placeholder row.written (ap is_by_value p.written) placeholder e);
     through = λ g o. absurd (let z : ◌≡◌ {A = Option Group} None (Some g) = sym p.outer ∙ o in cc);
     nested = (λ i. is_some (p.outer i) || is_none (p.inner i));
     single = λ place a. short-beside row term p.local p.leaf place root_context (values-at place a);
@@ -806,16 +806,16 @@ module _ (law : Laws) (rows : List Row) (es : List Entry) (invoice : IsInvoice e
     pub context : picked.entry.context ≡ e.context
     pub string_is : string_at nodes pick.node ≡ formed (form_for row.form term) es e.context e.value
     pub due : is_some (if_due row.written es term e.context (formed (form_for row.form term) es e.context e.value)) ≡ true
-    pub says : said row.form term (string_at nodes pick.node) ≡ record { term = term; value = Some e.value } ∷ code_said (form_for row.form term) es e.context
+    pub says : parsed row.form term (string_at nodes pick.node) ≡ record { term = term; value = Some e.value } ∷ code_said (form_for row.form term) es e.context
     pub at : IsAt nodes es picked.place
     pub leaf : Among pick.node (leaves_of nodes row.leaf (last_of picked.place.way))
 
-  -- a pick of a VAT total that isn't in the currency of its row, or one of a filler
+  -- a pick of a VAT total that isn't in the currency of its row, or one of a placeholder
   pub record IsNotTold (pick : Pick) : Type 0 where
     pub out : ((c : Currencies) → AreOwn rows es c → is_in_its_currency nodes c pick ≡ false) ⊎
-        (is_filler nodes (all_picked nodes (rows_where has_any_term rows)) pick ≡ true)
+        (is_placeholder nodes (all_picked nodes (rows_where has_any_term rows)) pick ≡ true)
     pub no_money : (has_term invoice_currency pick.row || has_term accounting_currency pick.row) ≡ false
-    pub beside : (term : Term) → Among term (flat_map beside_filler rows) → has_term term pick.row ≡ false
+    pub beside : (term : Term) → Among term (flat_map beside_placeholder rows) → has_term term pick.row ≡ false
 
   pub strange-pick : (k : ℕ) (row : Row) (way : List ℕ) (place : Place) → IsAt nodes es place → (n : ℕ) → Among n (leaves_of nodes row.leaf (last_of place.way))
       → IsStrange row place
@@ -824,12 +824,13 @@ module _ (law : Laws) (rows : List Row) (es : List Entry) (invoice : IsInvoice e
       let m = amount-of nodes es place at n (subst (λ l. Among n (leaves_of nodes l (last_of place.way))) s.leaf leaf) in
       record { out = inl (λ c own. ap (is_in c row.written) m.0 ∙ s.out c own m.1); no_money = s.no_money; beside = s.beside }
 
-  pub said-as : (row : Row) (term : Term) (e : Entry) → Among e es → e.term ≡ term → IsRead row.form term → IsBack es (form_for row.form term) e.context e.value
+  pub parsed-as : (row : Row) (term : Term) (e : Entry) → Among e es → e.term ≡ term → IsRead row.form term
+      → IsBack es (form_for row.form term) e.context e.value
       → (string : List ℕ) → string ≡ formed (form_for row.form term) es e.context e.value
-      → said row.form term string ≡ record { term = term; value = Some e.value } ∷ code_said (form_for row.form term) es e.context
-  said-as row term e a t read back string is =
-      ap (said row.form term) is ∙ (back-as law row.form term es e.context e.value back read
-      (subst (λ x. Fits x e.value) t (fits-among law es invoice term e es invoice.fit a))).said
+      → parsed row.form term string ≡ record { term = term; value = Some e.value } ∷ code_said (form_for row.form term) es e.context
+  parsed-as row term e a t read back string is =
+      ap (parsed row.form term) is ∙ (back-as law row.form term es e.context e.value back read
+      (subst (λ x. Fits x e.value) t (fits-among law es invoice term e es invoice.fit a))).parsed
 
   pub strings-at : (row : Row) (place : Place) → IsAt nodes es place → ends_at nodes row.leaf (last_of place.way) ≡ spot-strings row.leaf place.spot
   strings-at row place at =
@@ -881,7 +882,7 @@ module _ (law : Laws) (rows : List Row) (es : List Entry) (invoice : IsInvoice e
             context = refl;
             string_is = said_it.string_is;
             due = said_it.due;
-            says = said-as row term said_it.e said_it.known said_it.term_is read (good said_it.e said_it.known said_it.term_is)
+            says = parsed-as row term said_it.e said_it.known said_it.term_is read (good said_it.e said_it.known said_it.term_is)
                 (string_at nodes n) said_it.string_is;
             at = at;
             leaf = leaf;

@@ -46,7 +46,7 @@ currency-of written.IfIban h = refl
 currency-of written.IfNotIban h = refl
 currency-of written.IfScheme h = refl
 currency-of written.IfNoScheme h = refl
-currency-of (written.OrFiller filler) h = refl
+currency-of (written.OrPlaceholder placeholder) h = refl
 currency-of written.VatTotal h = refl
 currency-of written.AccountingVatTotal h = absurd (false≢true h)
 

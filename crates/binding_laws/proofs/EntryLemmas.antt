@@ -20,7 +20,7 @@ use Rattle.inv_terms.specs.Listing.{seat_of, comes_before, is_listed}
 use Rattle.inv_terms.proofs.OrderLemmas.{same_members}
 use Rattle.inv_terms.proofs.PushLemmas.{same_slot_is}
 use Rattle.bind_meaning.specs.Seats.{context_of}
-use Rattle.bind_meaning.specs.Values.{Said}
+use Rattle.bind_meaning.specs.Values.{ParsedValue}
 use Rattle.bind_meaning.specs.Judging.{Told, is_of_seat, first_before}
 use Rattle.bind_meaning.specs.Terms.{firsts_behind, entry_of, put, listed, entries}
 use Rattle.binding_laws.proofs.TreeLemmas.{Each, each-weaker}
@@ -155,23 +155,23 @@ module _ (es : List Entry) (rises : is_listed es ≡ true) where
   same-term-itself t = grind (arith, nat_tests)
 
   seat-of-itself : (t : Told) → is_of_seat t t ≡ true
-  seat-of-itself t = ap (λ b. elim b [ true ↦ same_context (context_of t.placed) (context_of t.placed) | false ↦ false ]) (same-term-itself t.said.term) ∙
+  seat-of-itself t = ap (λ b. elim b [ true ↦ same_context (context_of t.placed) (context_of t.placed) | false ↦ false ]) (same-term-itself t.parsed.term) ∙
       same-context-itself (context_of t.placed)
 
   pub record OneSeat (a b : Told) : Type 0 where
-    pub term : a.said.term ≡ b.said.term
+    pub term : a.parsed.term ≡ b.parsed.term
     pub context : context_of a.placed ≡ context_of b.placed
 
   pub one-seat : (a b : Told) → is_of_seat a b ≡ true → OneSeat a b
-  one-seat a b h = go (same_term a.said.term b.said.term) refl h
+  one-seat a b h = go (same_term a.parsed.term b.parsed.term) refl h
     where
-      go : (x : Bool) → same_term a.said.term b.said.term ≡ x →
+      go : (x : Bool) → same_term a.parsed.term b.parsed.term ≡ x →
           (elim x [ true ↦ same_context (context_of a.placed) (context_of b.placed) | false ↦ false ]) ≡ true → OneSeat a b
       go true e k =
           let w = both-true (same_slot (context_of a.placed).outer (context_of b.placed).outer)
           (same_slot (context_of a.placed).inner (context_of b.placed).inner) k in
           record {
-            term = same_term_is a.said.term b.said.term e;
+            term = same_term_is a.parsed.term b.parsed.term e;
             context = λ i. record {
               outer = (same_slot_is (context_of a.placed).outer (context_of b.placed).outer w.0) i;
               inner = (same_slot_is (context_of a.placed).inner (context_of b.placed).inner w.1) i;
@@ -261,12 +261,12 @@ module _ (es : List Entry) (rises : is_listed es ≡ true) where
 
   -- It says the entry, in its context.
   pub record Tells (t : Told) (e : Entry) : Type 0 where
-    pub said : t.said ≡ record { term = e.term; value = Some e.value }
+    pub parsed : t.parsed ≡ record { term = e.term; value = Some e.value }
     pub context : context_of t.placed ≡ e.context
 
   entry-of : (t : Told) (e : Entry) → Tells t e → entry_of t ≡ e ∷ []
   entry-of t e h =
-      ap (λ (s : Said). elim s.value [ None ↦ [] | Some value ↦ record { context = context_of t.placed; term = s.term; value = value } ∷ [] ]) h.said
+      ap (λ (s : ParsedValue). elim s.value [ None ↦ [] | Some value ↦ record { context = context_of t.placed; term = s.term; value = value } ∷ [] ]) h.parsed
       ∙ ap (λ c. record { context = c; term = e.term; value = e.value } ∷ []) h.context
 
   -- two entries of one seat are one
@@ -306,8 +306,10 @@ module _ (es : List Entry) (rises : is_listed es ≡ true) where
     where
       seat-again : (e : Entry) → Tells t e → (u : Told) → Tells u e → is_of_seat t u ≡ true
       seat-again e k u l =
-          ap (λ (s : Said). elim (same_term s.term u.said.term) [ true ↦ same_context (context_of t.placed) (context_of u.placed) | false ↦ false ]) k.said
-          ∙ (ap (λ (s : Said). elim (same_term e.term s.term) [ true ↦ same_context (context_of t.placed) (context_of u.placed) | false ↦ false ]) l.said
+          ap (λ (s : ParsedValue). elim (same_term s.term u.parsed.term) [ true ↦ same_context (context_of t.placed) (context_of u.placed) | false ↦ false ])
+              k.parsed
+          ∙ (ap (λ (s : ParsedValue). elim (same_term e.term s.term) [ true ↦ same_context (context_of t.placed) (context_of u.placed) | false ↦ false ])
+              l.parsed
           ∙ (ap (λ b. elim b [ true ↦ same_context (context_of t.placed) (context_of u.placed) | false ↦ false ]) (same-term-itself e.term)
           ∙ ((λ i. same_context (k.context i) (l.context i)) ∙ same-context-itself e.context)))
 
@@ -336,7 +338,7 @@ module _ (es : List Entry) (rises : is_listed es ≡ true) where
       let k = f u (w.sub u there) in
       let s = one-seat u v.0 c.1.1 in
       let same : k.0 ≡ x =
-      same-seat k.0 x k.1.0 a (sym (ap (λ (y : Said). y.term) k.1.1.said) ∙ (s.term ∙ ap (λ (y : Said). y.term) v.1.1.said))
+      same-seat k.0 x k.1.0 a (sym (ap (λ (y : ParsedValue). y.term) k.1.1.parsed) ∙ (s.term ∙ ap (λ (y : ParsedValue). y.term) v.1.1.parsed))
       (sym k.1.1.context ∙ (s.context ∙ v.1.1.context)) in
       among-flat_map entry_of u x firsts_told there (subst (Among x) (sym (entry-of u k.0 k.1.1)) (inl same)) in
       let d = sorted them down (differing firsts_told (λ t a. f t (w.sub t a)) w.apart) in

@@ -2,7 +2,7 @@
 use Rattle.std.proofs.Common.{◌≡◌, true, false, not, List, [], ◌∷◌, ◌++◌, Option, Some, None, ◌⊎◌, inl, inr, refl, ap, ◌∙◌, subst}
 use Rattle.inv_base.specs.Tree.{Node}
 use Rattle.code_lists.specs.CodeFiles.{Lists}
-use Rattle.inv_terms.specs.declared.lacks.Name.TheVariants as names
+use Rattle.inv_terms.specs.declared.violations.Name.TheVariants as names
 use Rattle.inv_terms.specs.declared.entries.Entry.{Entry}
 use Rattle.inv_terms.specs.Listing.{is_listed}
 use Rattle.bind_meaning.specs.declared.fault.BindKind.TheVariants as kinds
@@ -26,10 +26,10 @@ module _ (es : List Entry) (rises : is_listed es ≡ true) (nodes : List Node) (
   -- Nothing is wrong with it behind the first one.
   pub record IsFair (a b : Told) : Type 0 where
     pub repeats : is_of_seat a b ≡ true → may_repeat b.placed.pick.row.repeats ≡ true
-    pub agrees : is_of_seat a b ≡ true → disagree a.said.value b.said.value ≡ false
+    pub agrees : is_of_seat a b ≡ true → disagree a.parsed.value b.parsed.value ≡ false
 
   no-cause : (o : Option Told) (t : Told) → IsFine t → is_excess o t ≡ false → is_disagreeing o t ≡ false → fault_of nodes lists c o t ≡ []
-  no-cause o t f e d = ap (λ x. elim x [ None ↦ [] | Some kind ↦ found (place_at t.placed.pick kind) kind (names.Term t.said.term) t.placed.pick.node ∷ [] ])
+  no-cause o t f e d = ap (λ x. elim x [ None ↦ [] | Some kind ↦ found (place_at t.placed.pick kind) kind (names.Term t.parsed.term) t.placed.pick.node ∷ [] ])
       none
     where
       none : first_cause (causes nodes lists c o t) ≡ None

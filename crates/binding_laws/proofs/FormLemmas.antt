@@ -15,12 +15,12 @@ use Rattle.inv_decimal.specs.CivilDay.{CivilDay, IsDay}
 use Rattle.inv_decimal.specs.Digits.{last_digits}
 use Rattle.inv_decimal.specs.WrittenNumber.{read_scaled, read_decimal, written_units}
 use Rattle.inv_decimal.specs.WrittenDay.{read_plain_day, read_dashed_day, plain_day_text}
-use Rattle.term_table.specs.declared.terms.Letter.{Letter}
-use Rattle.term_table.specs.declared.terms.Letter.TheVariants as letters
+use Rattle.term_table.specs.declared.terms.DataType.{DataType}
+use Rattle.term_table.specs.declared.terms.DataType.TheVariants as data_types
 use Rattle.term_table.specs.declared.terms.Term.{Term}
 use Rattle.term_table.specs.declared.contexts.Context.{Context}
 use Rattle.term_table.specs.SemanticModel.{is_extension}
-use Rattle.term_table.specs.Rows.{is_base64, letter_of}
+use Rattle.term_table.specs.Rows.{is_base64, data_type_of}
 use Rattle.term_table.proofs.SeatLemmas.{same_term_is}
 use Rattle.term_table.proofs.ExtensionLemmas.{one-type, modelled-type}
 use Rattle.inv_terms.specs.declared.values.Value.{Value}
@@ -33,7 +33,7 @@ use Rattle.bind_rows.specs.declared.rows.Form.{Form}
 use Rattle.bind_rows.specs.declared.rows.Form.TheVariants as forms
 use Rattle.bind_rows.specs.Added.{is_typed}
 use Rattle.bind_meaning.specs.Values as meaning
-use Rattle.bind_meaning.specs.Values.{Image, images, Said, by_type, is_day, suits, form_for, said_in}
+use Rattle.bind_meaning.specs.Values.{Image, images, ParsedValue, by_type, is_day, suits, form_for, parsed_in}
 use Rattle.bind_meaning.specs.Elements.{is_full}
 use Rattle.bind_meaning.specs.Writing as writing
 use Rattle.bind_meaning.specs.Writing.{formed, is_of_type, of_form}
@@ -51,7 +51,7 @@ both false b h = absurd (false≢true h)
 -- ---- the laws that are used
 
 abbrev pub ReadsBack : Type 0
-ReadsBack = (letter : Letter) (text : List ℕ) (value : Value) → value_of letter text ≡ Some value → value_of letter (spelled value) ≡ Some value
+ReadsBack = (data_type : DataType) (text : List ℕ) (value : Value) → value_of data_type text ≡ Some value → value_of data_type (spelled value) ≡ Some value
 
 abbrev pub ReadsDays : Type 0
 ReadsDays = (d : CivilDay) → IsDay d → read_plain_day (plain_day_text d) ≡ Some d
@@ -73,23 +73,23 @@ leading-blank (c ∷ text) h = let k = both (is_white_space c) (is_blank text) h
 blank-trimmed : (text : List ℕ) → is_blank text ≡ true → trimmed text ≡ []
 blank-trimmed text h = ap without_trailing (leading-blank text h)
 
-blank-by : (letter : Letter) (text : List ℕ) → is_blank text ≡ true → value_by letter text ≡ None
+blank-by : (data_type : DataType) (text : List ℕ) → is_blank text ≡ true → value_by data_type text ≡ None
 unfolding read_scaled read_decimal written_units read_dashed_day
-blank-by letters.T text h = ap (λ b. option_map values.Text (if b then None else Some text)) h
-blank-by letters.I text h = ap (λ t. option_map values.Identifier (identifier_in t)) (blank-trimmed text h)
-blank-by letters.C text h = ap (λ t. option_map values.Code (if is_code t then Some t else None)) (blank-trimmed text h)
-blank-by letters.A text h = ap (λ t. option_map values.Amount (read_scaled t)) (blank-trimmed text h)
-blank-by letters.Q text h = ap (λ t. option_map values.Quantity (read_scaled t)) (blank-trimmed text h)
-blank-by letters.P text h = ap (λ t. option_map values.Percent (read_scaled t)) (blank-trimmed text h)
-blank-by letters.D text h = ap (λ t. option_map values.Date (read_dashed_day t)) (blank-trimmed text h)
-blank-by letters.B text h = ap (λ b. option_map values.Base64 (if b then None else Some text)) h
+blank-by data_types.T text h = ap (λ b. option_map values.Text (if b then None else Some text)) h
+blank-by data_types.I text h = ap (λ t. option_map values.Identifier (identifier_in t)) (blank-trimmed text h)
+blank-by data_types.C text h = ap (λ t. option_map values.Code (if is_code t then Some t else None)) (blank-trimmed text h)
+blank-by data_types.A text h = ap (λ t. option_map values.Amount (read_scaled t)) (blank-trimmed text h)
+blank-by data_types.Q text h = ap (λ t. option_map values.Quantity (read_scaled t)) (blank-trimmed text h)
+blank-by data_types.P text h = ap (λ t. option_map values.Percent (read_scaled t)) (blank-trimmed text h)
+blank-by data_types.D text h = ap (λ t. option_map values.Date (read_dashed_day t)) (blank-trimmed text h)
+blank-by data_types.B text h = ap (λ b. option_map values.Base64 (if b then None else Some text)) h
 
-blank-none : (letter : Letter) (text : List ℕ) → is_blank text ≡ true → value_of letter text ≡ None
+blank-none : (data_type : DataType) (text : List ℕ) → is_blank text ≡ true → value_of data_type text ≡ None
 unfolding value_of
-blank-none letter text h = go (list_all is_char text)
+blank-none data_type text h = go (list_all is_char text)
   where
-    go : (b : Bool) → (if b then value_by letter text else None) ≡ None
-    go true = blank-by letter text h
+    go : (b : Bool) → (if b then value_by data_type text else None) ≡ None
+    go true = blank-by data_type text h
     go false = refl
 
 blank-day : (text : List ℕ) → is_blank text ≡ true → meaning.plain_date text ≡ None
@@ -171,126 +171,127 @@ taken (Some d) y h = (d, refl, same_Some _ _ h)
 
 -- ---- the type of a value
 
-abbrev own_letter : Value → Letter
-own_letter (values.Text text) = letters.T
-own_letter (values.Identifier text) = letters.I
-own_letter (values.Code text) = letters.C
-own_letter (values.Amount number) = letters.A
-own_letter (values.Quantity number) = letters.Q
-own_letter (values.Percent number) = letters.P
-own_letter (values.Date day) = letters.D
-own_letter (values.Base64 text) = letters.B
+abbrev own_data_type : Value → DataType
+own_data_type (values.Text text) = data_types.T
+own_data_type (values.Identifier text) = data_types.I
+own_data_type (values.Code text) = data_types.C
+own_data_type (values.Amount number) = data_types.A
+own_data_type (values.Quantity number) = data_types.Q
+own_data_type (values.Percent number) = data_types.P
+own_data_type (values.Date day) = data_types.D
+own_data_type (values.Base64 text) = data_types.B
 
 -- a value that a string has by a type, is of it
-own-letter : (letter : Letter) (text : List ℕ) (value : Value) → value_of letter text ≡ Some value → own_letter value ≡ letter
+own-data_type : (data_type : DataType) (text : List ℕ) (value : Value) → value_of data_type text ≡ Some value → own_data_type value ≡ data_type
 unfolding value_of
-own-letter letter text value h = by letter (some-if (list_all is_char text) (value_by letter text) value h)
+own-data_type data_type text value h = by data_type (some-if (list_all is_char text) (value_by data_type text) value h)
   where
-    made : {X : Type 0} (make : X → Value) (l : Letter) → ((x : X) → own_letter (make x) ≡ l) → (o : Option X) → option_map make o ≡ Some value →
-        own_letter value ≡ l
+    made : {X : Type 0} (make : X → Value) (l : DataType) → ((x : X) → own_data_type (make x) ≡ l) → (o : Option X) → option_map make o ≡ Some value →
+        own_data_type value ≡ l
     made make l is None k = absurd (let z : ◌≡◌ {A = Option Value} None (Some value) = k in cc)
-    made make l is (Some x) k = ap own_letter (sym (same_Some _ _ k)) ∙ is x
+    made make l is (Some x) k = ap own_data_type (sym (same_Some _ _ k)) ∙ is x
 
-    by : (l : Letter) → value_by l text ≡ Some value → own_letter value ≡ l
-    by letters.T k = made values.Text letters.T (λ x. refl) (if is_blank text then None else Some text) k
-    by letters.I k = made values.Identifier letters.I (λ x. refl) (identifier_in (trimmed text)) k
-    by letters.C k = made values.Code letters.C (λ x. refl) (if is_code (trimmed text) then Some (trimmed text) else None) k
-    by letters.A k = made values.Amount letters.A (λ x. refl) (read_scaled (trimmed text)) k
-    by letters.Q k = made values.Quantity letters.Q (λ x. refl) (read_scaled (trimmed text)) k
-    by letters.P k = made values.Percent letters.P (λ x. refl) (read_scaled (trimmed text)) k
-    by letters.D k = made values.Date letters.D (λ x. refl) (read_dashed_day (trimmed text)) k
-    by letters.B k = made values.Base64 letters.B (λ x. refl) (if is_blank text then None else Some text) k
+    by : (l : DataType) → value_by l text ≡ Some value → own_data_type value ≡ l
+    by data_types.T k = made values.Text data_types.T (λ x. refl) (if is_blank text then None else Some text) k
+    by data_types.I k = made values.Identifier data_types.I (λ x. refl) (identifier_in (trimmed text)) k
+    by data_types.C k = made values.Code data_types.C (λ x. refl) (if is_code (trimmed text) then Some (trimmed text) else None) k
+    by data_types.A k = made values.Amount data_types.A (λ x. refl) (read_scaled (trimmed text)) k
+    by data_types.Q k = made values.Quantity data_types.Q (λ x. refl) (read_scaled (trimmed text)) k
+    by data_types.P k = made values.Percent data_types.P (λ x. refl) (read_scaled (trimmed text)) k
+    by data_types.D k = made values.Date data_types.D (λ x. refl) (read_dashed_day (trimmed text)) k
+    by data_types.B k = made values.Base64 data_types.B (λ x. refl) (if is_blank text then None else Some text) k
 
-letter-of : (letter : Letter) (value : Value) → is_of_type letter value ≡ true → own_letter value ≡ letter
-letter-of letters.T (values.Text text) h = refl
-letter-of letters.T (values.Identifier text) h = absurd (false≢true h)
-letter-of letters.T (values.Code text) h = absurd (false≢true h)
-letter-of letters.T (values.Amount number) h = absurd (false≢true h)
-letter-of letters.T (values.Quantity number) h = absurd (false≢true h)
-letter-of letters.T (values.Percent number) h = absurd (false≢true h)
-letter-of letters.T (values.Date day) h = absurd (false≢true h)
-letter-of letters.T (values.Base64 text) h = absurd (false≢true h)
-letter-of letters.I (values.Text text) h = absurd (false≢true h)
-letter-of letters.I (values.Identifier text) h = refl
-letter-of letters.I (values.Code text) h = absurd (false≢true h)
-letter-of letters.I (values.Amount number) h = absurd (false≢true h)
-letter-of letters.I (values.Quantity number) h = absurd (false≢true h)
-letter-of letters.I (values.Percent number) h = absurd (false≢true h)
-letter-of letters.I (values.Date day) h = absurd (false≢true h)
-letter-of letters.I (values.Base64 text) h = absurd (false≢true h)
-letter-of letters.C (values.Text text) h = absurd (false≢true h)
-letter-of letters.C (values.Identifier text) h = absurd (false≢true h)
-letter-of letters.C (values.Code text) h = refl
-letter-of letters.C (values.Amount number) h = absurd (false≢true h)
-letter-of letters.C (values.Quantity number) h = absurd (false≢true h)
-letter-of letters.C (values.Percent number) h = absurd (false≢true h)
-letter-of letters.C (values.Date day) h = absurd (false≢true h)
-letter-of letters.C (values.Base64 text) h = absurd (false≢true h)
-letter-of letters.A (values.Text text) h = absurd (false≢true h)
-letter-of letters.A (values.Identifier text) h = absurd (false≢true h)
-letter-of letters.A (values.Code text) h = absurd (false≢true h)
-letter-of letters.A (values.Amount number) h = refl
-letter-of letters.A (values.Quantity number) h = absurd (false≢true h)
-letter-of letters.A (values.Percent number) h = absurd (false≢true h)
-letter-of letters.A (values.Date day) h = absurd (false≢true h)
-letter-of letters.A (values.Base64 text) h = absurd (false≢true h)
-letter-of letters.Q (values.Text text) h = absurd (false≢true h)
-letter-of letters.Q (values.Identifier text) h = absurd (false≢true h)
-letter-of letters.Q (values.Code text) h = absurd (false≢true h)
-letter-of letters.Q (values.Amount number) h = absurd (false≢true h)
-letter-of letters.Q (values.Quantity number) h = refl
-letter-of letters.Q (values.Percent number) h = absurd (false≢true h)
-letter-of letters.Q (values.Date day) h = absurd (false≢true h)
-letter-of letters.Q (values.Base64 text) h = absurd (false≢true h)
-letter-of letters.P (values.Text text) h = absurd (false≢true h)
-letter-of letters.P (values.Identifier text) h = absurd (false≢true h)
-letter-of letters.P (values.Code text) h = absurd (false≢true h)
-letter-of letters.P (values.Amount number) h = absurd (false≢true h)
-letter-of letters.P (values.Quantity number) h = absurd (false≢true h)
-letter-of letters.P (values.Percent number) h = refl
-letter-of letters.P (values.Date day) h = absurd (false≢true h)
-letter-of letters.P (values.Base64 text) h = absurd (false≢true h)
-letter-of letters.D (values.Text text) h = absurd (false≢true h)
-letter-of letters.D (values.Identifier text) h = absurd (false≢true h)
-letter-of letters.D (values.Code text) h = absurd (false≢true h)
-letter-of letters.D (values.Amount number) h = absurd (false≢true h)
-letter-of letters.D (values.Quantity number) h = absurd (false≢true h)
-letter-of letters.D (values.Percent number) h = absurd (false≢true h)
-letter-of letters.D (values.Date day) h = refl
-letter-of letters.D (values.Base64 text) h = absurd (false≢true h)
-letter-of letters.B (values.Text text) h = absurd (false≢true h)
-letter-of letters.B (values.Identifier text) h = absurd (false≢true h)
-letter-of letters.B (values.Code text) h = absurd (false≢true h)
-letter-of letters.B (values.Amount number) h = absurd (false≢true h)
-letter-of letters.B (values.Quantity number) h = absurd (false≢true h)
-letter-of letters.B (values.Percent number) h = absurd (false≢true h)
-letter-of letters.B (values.Date day) h = absurd (false≢true h)
-letter-of letters.B (values.Base64 text) h = refl
+data_type-of : (data_type : DataType) (value : Value) → is_of_type data_type value ≡ true → own_data_type value ≡ data_type
+data_type-of data_types.T (values.Text text) h = refl
+data_type-of data_types.T (values.Identifier text) h = absurd (false≢true h)
+data_type-of data_types.T (values.Code text) h = absurd (false≢true h)
+data_type-of data_types.T (values.Amount number) h = absurd (false≢true h)
+data_type-of data_types.T (values.Quantity number) h = absurd (false≢true h)
+data_type-of data_types.T (values.Percent number) h = absurd (false≢true h)
+data_type-of data_types.T (values.Date day) h = absurd (false≢true h)
+data_type-of data_types.T (values.Base64 text) h = absurd (false≢true h)
+data_type-of data_types.I (values.Text text) h = absurd (false≢true h)
+data_type-of data_types.I (values.Identifier text) h = refl
+data_type-of data_types.I (values.Code text) h = absurd (false≢true h)
+data_type-of data_types.I (values.Amount number) h = absurd (false≢true h)
+data_type-of data_types.I (values.Quantity number) h = absurd (false≢true h)
+data_type-of data_types.I (values.Percent number) h = absurd (false≢true h)
+data_type-of data_types.I (values.Date day) h = absurd (false≢true h)
+data_type-of data_types.I (values.Base64 text) h = absurd (false≢true h)
+data_type-of data_types.C (values.Text text) h = absurd (false≢true h)
+data_type-of data_types.C (values.Identifier text) h = absurd (false≢true h)
+data_type-of data_types.C (values.Code text) h = refl
+data_type-of data_types.C (values.Amount number) h = absurd (false≢true h)
+data_type-of data_types.C (values.Quantity number) h = absurd (false≢true h)
+data_type-of data_types.C (values.Percent number) h = absurd (false≢true h)
+data_type-of data_types.C (values.Date day) h = absurd (false≢true h)
+data_type-of data_types.C (values.Base64 text) h = absurd (false≢true h)
+data_type-of data_types.A (values.Text text) h = absurd (false≢true h)
+data_type-of data_types.A (values.Identifier text) h = absurd (false≢true h)
+data_type-of data_types.A (values.Code text) h = absurd (false≢true h)
+data_type-of data_types.A (values.Amount number) h = refl
+data_type-of data_types.A (values.Quantity number) h = absurd (false≢true h)
+data_type-of data_types.A (values.Percent number) h = absurd (false≢true h)
+data_type-of data_types.A (values.Date day) h = absurd (false≢true h)
+data_type-of data_types.A (values.Base64 text) h = absurd (false≢true h)
+data_type-of data_types.Q (values.Text text) h = absurd (false≢true h)
+data_type-of data_types.Q (values.Identifier text) h = absurd (false≢true h)
+data_type-of data_types.Q (values.Code text) h = absurd (false≢true h)
+data_type-of data_types.Q (values.Amount number) h = absurd (false≢true h)
+data_type-of data_types.Q (values.Quantity number) h = refl
+data_type-of data_types.Q (values.Percent number) h = absurd (false≢true h)
+data_type-of data_types.Q (values.Date day) h = absurd (false≢true h)
+data_type-of data_types.Q (values.Base64 text) h = absurd (false≢true h)
+data_type-of data_types.P (values.Text text) h = absurd (false≢true h)
+data_type-of data_types.P (values.Identifier text) h = absurd (false≢true h)
+data_type-of data_types.P (values.Code text) h = absurd (false≢true h)
+data_type-of data_types.P (values.Amount number) h = absurd (false≢true h)
+data_type-of data_types.P (values.Quantity number) h = absurd (false≢true h)
+data_type-of data_types.P (values.Percent number) h = refl
+data_type-of data_types.P (values.Date day) h = absurd (false≢true h)
+data_type-of data_types.P (values.Base64 text) h = absurd (false≢true h)
+data_type-of data_types.D (values.Text text) h = absurd (false≢true h)
+data_type-of data_types.D (values.Identifier text) h = absurd (false≢true h)
+data_type-of data_types.D (values.Code text) h = absurd (false≢true h)
+data_type-of data_types.D (values.Amount number) h = absurd (false≢true h)
+data_type-of data_types.D (values.Quantity number) h = absurd (false≢true h)
+data_type-of data_types.D (values.Percent number) h = absurd (false≢true h)
+data_type-of data_types.D (values.Date day) h = refl
+data_type-of data_types.D (values.Base64 text) h = absurd (false≢true h)
+data_type-of data_types.B (values.Text text) h = absurd (false≢true h)
+data_type-of data_types.B (values.Identifier text) h = absurd (false≢true h)
+data_type-of data_types.B (values.Code text) h = absurd (false≢true h)
+data_type-of data_types.B (values.Amount number) h = absurd (false≢true h)
+data_type-of data_types.B (values.Quantity number) h = absurd (false≢true h)
+data_type-of data_types.B (values.Percent number) h = absurd (false≢true h)
+data_type-of data_types.B (values.Date day) h = absurd (false≢true h)
+data_type-of data_types.B (values.Base64 text) h = refl
 
 -- a value that fits a term of days is a day
-day-value : AreDays → (letter : Letter) (text : List ℕ) (value : Value) → letter ≡ letters.D → value_of letter text ≡ Some value → (d : CivilDay) × (IsDay d) ×
+day-value : AreDays → (data_type : DataType) (text : List ℕ) (value : Value) → data_type ≡ data_types.D → value_of data_type text ≡ Some value
+    → (d : CivilDay) × (IsDay d) ×
     (values.Date d ≡ value)
 unfolding value_of
-day-value are letter text value e h =
-    let read : (if list_all is_char text then value_by letters.D text else None) ≡ Some value =
+day-value are data_type text value e h =
+    let read : (if list_all is_char text then value_by data_types.D text else None) ≡ Some value =
     ap (λ l. if list_all is_char text then value_by l text else None) (sym e) ∙ h in
-    let w = taken (read_dashed_day (trimmed text)) value (some-if (list_all is_char text) (value_by letters.D text) value read) in
+    let w = taken (read_dashed_day (trimmed text)) value (some-if (list_all is_char text) (value_by data_types.D text) value read) in
     (w.0, are (trimmed text) w.0 w.1, w.2)
 
-day-type : (o : Option Letter) → is_day o ≡ true → o ≡ Some letters.D
+day-type : (o : Option DataType) → is_day o ≡ true → o ≡ Some data_types.D
 day-type None h = absurd (false≢true h)
-day-type (Some letters.D) h = refl
-day-type (Some letters.T) h = absurd (false≢true h)
-day-type (Some letters.I) h = absurd (false≢true h)
-day-type (Some letters.C) h = absurd (false≢true h)
-day-type (Some letters.A) h = absurd (false≢true h)
-day-type (Some letters.Q) h = absurd (false≢true h)
-day-type (Some letters.P) h = absurd (false≢true h)
-day-type (Some letters.B) h = absurd (false≢true h)
+day-type (Some data_types.D) h = refl
+day-type (Some data_types.T) h = absurd (false≢true h)
+day-type (Some data_types.I) h = absurd (false≢true h)
+day-type (Some data_types.C) h = absurd (false≢true h)
+day-type (Some data_types.A) h = absurd (false≢true h)
+day-type (Some data_types.Q) h = absurd (false≢true h)
+day-type (Some data_types.P) h = absurd (false≢true h)
+day-type (Some data_types.B) h = absurd (false≢true h)
 
 -- a row of a form for days has a term of days
 form-day : (form : Form) (term : Term) (b : Bool) → suits form term ≡ b → (elim b [ true ↦ form | false ↦ forms.Model ]) ≡ forms.PlainDate →
-    is_day (letter_of term) ≡ true
+    is_day (data_type_of term) ≡ true
 form-day forms.PlainDate term true s e = s
 form-day forms.PlainDate term false s e = absurd (let k : forms.Model ≡ forms.PlainDate = e in cc)
 form-day forms.Model term true s e = absurd (let k : forms.Model ≡ forms.PlainDate = e in cc)
@@ -299,19 +300,19 @@ form-day forms.DueDateTypeCode term true s e = absurd (let k : forms.DueDateType
 form-day forms.DueDateTypeCode term false s e = absurd (let k : forms.Model ≡ forms.PlainDate = e in cc)
 form-day forms.CodedNote term true s e = absurd (let k : forms.CodedNote ≡ forms.PlainDate = e in cc)
 form-day forms.CodedNote term false s e = absurd (let k : forms.Model ≡ forms.PlainDate = e in cc)
-form-day (forms.Typed letter) term true s e = absurd (let k : forms.Typed letter ≡ forms.PlainDate = e in cc)
-form-day (forms.Typed letter) term false s e = absurd (let k : forms.Model ≡ forms.PlainDate = e in cc)
+form-day (forms.Typed data_type) term true s e = absurd (let k : forms.Typed data_type ≡ forms.PlainDate = e in cc)
+form-day (forms.Typed data_type) term false s e = absurd (let k : forms.Model ≡ forms.PlainDate = e in cc)
 form-day forms.TypedPlainDate term true s e = absurd (let k : forms.TypedPlainDate ≡ forms.PlainDate = e in cc)
 form-day forms.TypedPlainDate term false s e = absurd (let k : forms.Model ≡ forms.PlainDate = e in cc)
 
 -- ---- by the form of a row
 
 -- what is said beside the value: a subject code in front of a note
-abbrev pub code_said : Form → List Entry → Context → List Said
+abbrev pub code_said : Form → List Entry → Context → List ParsedValue
 code_said forms.Model es c = []
 code_said forms.PlainDate es c = []
 code_said forms.DueDateTypeCode es c = []
-code_said (forms.Typed letter) es c = []
+code_said (forms.Typed data_type) es c = []
 code_said forms.TypedPlainDate es c = []
 code_said forms.CodedNote es c = elim (value_in es meaning.subject_code c) [
   | None ↦ []
@@ -320,7 +321,7 @@ code_said forms.CodedNote es c = elim (value_in es meaning.subject_code c) [
 
 -- what is written of a value says that value, and isn't blank
 pub record ReadsAs (form : Form) (term : Term) (es : List Entry) (c : Context) (value : Value) : Type 0 where
-  pub said : said_in form term (formed form es c value) ≡ record { term = term; value = Some value } ∷ code_said form es c
+  pub parsed : parsed_in form term (formed form es c value) ≡ record { term = term; value = Some value } ∷ code_said form es c
   pub full : is_full (formed form es c value) ≡ true
 
 not-blank : (text : List ℕ) (f : List ℕ → Option Value) (value : Value) → ((text : List ℕ) → is_blank text ≡ true → f text ≡ None) → f text ≡ Some value →
@@ -333,21 +334,21 @@ not-blank text f value none some = go (is_blank text) refl
 
 -- A value isn't blank as the model spells it.
 full-model : ReadsBack → (term : Term) (value : Value) → Fits term value → is_full (spelled value) ≡ true
-full-model law term value f = not-blank (spelled value) (value_of f.letter) value (blank-none f.letter) (law f.letter f.text value f.read)
+full-model law term value f = not-blank (spelled value) (value_of f.data_type) value (blank-none f.data_type) (law f.data_type f.text value f.read)
 
 -- One of a term of the semantic model is read by the term's type.
 as-model : ReadsBack → (term : Term) (es : List Entry) (c : Context) (value : Value) → is_extension term ≡ false → Fits term value →
     ReadsAs forms.Model term es c value
 as-model law term es c value own f =
-    let back : value_of f.letter (spelled value) ≡ Some value = law f.letter f.text value f.read in
+    let back : value_of f.data_type (spelled value) ≡ Some value = law f.data_type f.text value f.read in
     record {
-      said = ap (λ v. record { term = term; value = v } ∷ [])
-          (ap (λ x. option_and_then (λ letter. value_of letter (spelled value)) x) (modelled-type term f.letter f.typed own) ∙ back);
+      parsed = ap (λ v. record { term = term; value = v } ∷ [])
+          (ap (λ x. option_and_then (λ data_type. value_of data_type (spelled value)) x) (modelled-type term f.data_type f.typed own) ∙ back);
       full = full-model law term value f;
     }
 
 -- a code has no white space around it
-code-trimmed : (text : List ℕ) (value : Value) → value_of letters.C text ≡ Some value → spelled value ≡ trimmed text
+code-trimmed : (text : List ℕ) (value : Value) → value_of data_types.C text ≡ Some value → spelled value ≡ trimmed text
 unfolding value_of
 code-trimmed text value h = go (list_all is_char text) (is_code (trimmed text)) h
   where
@@ -356,13 +357,13 @@ code-trimmed text value h = go (list_all is_char text) (is_code (trimmed text)) 
     go true false k = absurd (let z : ◌≡◌ {A = Option Value} None (Some value) = k in cc)
     go false b k = absurd (let z : ◌≡◌ {A = Option Value} None (Some value) = k in cc)
 
-pub code-as-it-is : Laws → (term : Term) (value : Value) → letter_of term ≡ Some letters.C → Fits term value → trimmed (spelled value) ≡ spelled value
+pub code-as-it-is : Laws → (term : Term) (value : Value) → data_type_of term ≡ Some data_types.C → Fits term value → trimmed (spelled value) ≡ spelled value
 code-as-it-is laws term value is f =
-    let letter : f.letter ≡ letters.C = one-type term f.letter letters.C f.typed is in
-    sym (code-trimmed (spelled value) value (subst (λ l. value_of l (spelled value) ≡ Some value) letter (laws.values f.letter f.text value f.read)))
+    let data_type : f.data_type ≡ data_types.C = one-type term f.data_type data_types.C f.typed is in
+    sym (code-trimmed (spelled value) value (subst (λ l. value_of l (spelled value) ≡ Some value) data_type (laws.values f.data_type f.text value f.read)))
 
 -- nor has an identifier
-identifier-trimmed : (text : List ℕ) (value : Value) → value_of letters.I text ≡ Some value → spelled value ≡ trimmed text
+identifier-trimmed : (text : List ℕ) (value : Value) → value_of data_types.I text ≡ Some value → spelled value ≡ trimmed text
 unfolding value_of
 identifier-trimmed text value h = go (list_all is_char text) (trimmed text) h
   where
@@ -371,56 +372,57 @@ identifier-trimmed text value h = go (list_all is_char text) (trimmed text) h
     go true [] k = absurd (let z : ◌≡◌ {A = Option Value} None (Some value) = k in cc)
     go false t k = absurd (let z : ◌≡◌ {A = Option Value} None (Some value) = k in cc)
 
-pub trimmed-as-it-is : Laws → (term : Term) (value : Value) → is_trimmed (letter_of term) ≡ true → Fits term value → trimmed (spelled value) ≡ spelled value
-trimmed-as-it-is laws term value is f = own (letter_of term) refl is
+pub trimmed-as-it-is : Laws → (term : Term) (value : Value) → is_trimmed (data_type_of term) ≡ true → Fits term value → trimmed (spelled value) ≡ spelled value
+trimmed-as-it-is laws term value is f = own (data_type_of term) refl is
   where
-    go : (letter : Letter) → is_trimmed (Some letter) ≡ true → value_of letter (spelled value) ≡ Some value → trimmed (spelled value) ≡ spelled value
-    go letters.I k back = sym (identifier-trimmed (spelled value) value back)
-    go letters.C k back = sym (code-trimmed (spelled value) value back)
-    go letters.T k back = absurd (false≢true k)
-    go letters.A k back = absurd (false≢true k)
-    go letters.Q k back = absurd (false≢true k)
-    go letters.P k back = absurd (false≢true k)
-    go letters.D k back = absurd (false≢true k)
-    go letters.B k back = absurd (false≢true k)
+    go : (data_type : DataType) → is_trimmed (Some data_type) ≡ true → value_of data_type (spelled value) ≡ Some value → trimmed (spelled value) ≡ spelled value
+    go data_types.I k back = sym (identifier-trimmed (spelled value) value back)
+    go data_types.C k back = sym (code-trimmed (spelled value) value back)
+    go data_types.T k back = absurd (false≢true k)
+    go data_types.A k back = absurd (false≢true k)
+    go data_types.Q k back = absurd (false≢true k)
+    go data_types.P k back = absurd (false≢true k)
+    go data_types.D k back = absurd (false≢true k)
+    go data_types.B k back = absurd (false≢true k)
 
-    own : (o : Option Letter) → letter_of term ≡ o → is_trimmed o ≡ true → trimmed (spelled value) ≡ spelled value
+    own : (o : Option DataType) → data_type_of term ≡ o → is_trimmed o ≡ true → trimmed (spelled value) ≡ spelled value
     own None e k = absurd (false≢true k)
-    own (Some letter) e k = go f.letter (ap (λ l. is_trimmed (Some l)) (one-type term f.letter letter f.typed e) ∙ k) (laws.values f.letter f.text value f.read)
+    own (Some data_type) e k = go f.data_type (ap (λ l. is_trimmed (Some l)) (one-type term f.data_type data_type f.typed e)
+        ∙ k) (laws.values f.data_type f.text value f.read)
 
 -- a day is read back without dashes
-day-back : Laws → (term : Term) (value : Value) (f : Fits term value) → f.letter ≡ letters.D → meaning.plain_date (writing.plain_date value) ≡ Some value
-day-back laws term value f letter =
-    let w = day-value laws.are_days f.letter f.text value letter f.read in
+day-back : Laws → (term : Term) (value : Value) (f : Fits term value) → f.data_type ≡ data_types.D → meaning.plain_date (writing.plain_date value) ≡ Some value
+day-back laws term value f data_type =
+    let w = day-value laws.are_days f.data_type f.text value data_type f.read in
     ap (λ v. meaning.plain_date (writing.plain_date v)) (sym w.2) ∙ (day-read laws.days w.0 w.1 ∙ ap Some w.2)
 
-as-day : Laws → (term : Term) (es : List Entry) (c : Context) (value : Value) → is_day (letter_of term) ≡ true → Fits term value →
+as-day : Laws → (term : Term) (es : List Entry) (c : Context) (value : Value) → is_day (data_type_of term) ≡ true → Fits term value →
     ReadsAs forms.PlainDate term es c value
 as-day laws term es c value is f =
-    let back = day-back laws term value f (one-type term f.letter letters.D f.typed (day-type (letter_of term) is)) in
+    let back = day-back laws term value f (one-type term f.data_type data_types.D f.typed (day-type (data_type_of term) is)) in
     record {
-      said = ap (λ v. record { term = term; value = v } ∷ []) back;
+      parsed = ap (λ v. record { term = term; value = v } ∷ []) back;
       full = not-blank (writing.plain_date value) meaning.plain_date value blank-day back;
     }
 
 -- ---- forms that have a type of their own
 
-as-typed : Laws → (letter : Letter) (term : Term) (es : List Entry) (c : Context) (value : Value) → is_of_type letter value ≡ true → Fits term value →
-    ReadsAs (forms.Typed letter) term es c value
-as-typed laws letter term es c value is f =
-    let same : f.letter ≡ letter = sym (own-letter f.letter f.text value f.read) ∙ letter-of letter value is in
+as-typed : Laws → (data_type : DataType) (term : Term) (es : List Entry) (c : Context) (value : Value) → is_of_type data_type value ≡ true → Fits term value →
+    ReadsAs (forms.Typed data_type) term es c value
+as-typed laws data_type term es c value is f =
+    let same : f.data_type ≡ data_type = sym (own-data_type f.data_type f.text value f.read) ∙ data_type-of data_type value is in
     record {
-      said = ap (λ v. record { term = term; value = v } ∷ [])
-          (subst (λ l. value_of l (spelled value) ≡ Some value) same (laws.values f.letter f.text value f.read));
+      parsed = ap (λ v. record { term = term; value = v } ∷ [])
+          (subst (λ l. value_of l (spelled value) ≡ Some value) same (laws.values f.data_type f.text value f.read));
       full = full-model laws.values term value f;
     }
 
-as-typed-day : Laws → (term : Term) (es : List Entry) (c : Context) (value : Value) → is_of_type letters.D value ≡ true → Fits term value →
+as-typed-day : Laws → (term : Term) (es : List Entry) (c : Context) (value : Value) → is_of_type data_types.D value ≡ true → Fits term value →
     ReadsAs forms.TypedPlainDate term es c value
 as-typed-day laws term es c value is f =
-    let back = day-back laws term value f (sym (own-letter f.letter f.text value f.read) ∙ letter-of letters.D value is) in
+    let back = day-back laws term value f (sym (own-data_type f.data_type f.text value f.read) ∙ data_type-of data_types.D value is) in
     record {
-      said = ap (λ v. record { term = term; value = v } ∷ []) back;
+      parsed = ap (λ v. record { term = term; value = v } ∷ []) back;
       full = not-blank (writing.plain_date value) meaning.plain_date value blank-day back;
     }
 
@@ -428,7 +430,7 @@ as-typed-day laws term es c value is f =
 full-plain : Laws → (term : Term) (value : Value) → Fits term value → is_full (writing.plain_date value) ≡ true
 full-plain laws term (values.Date day) f =
     not-blank (plain_day_text day) meaning.plain_date (values.Date day) blank-day
-    (day-back laws term (values.Date day) f (sym (own-letter f.letter f.text (values.Date day) f.read)))
+    (day-back laws term (values.Date day) f (sym (own-data_type f.data_type f.text (values.Date day) f.read)))
 full-plain laws term (values.Text text) f = full-model laws.values term (values.Text text) f
 full-plain laws term (values.Identifier text) f = full-model laws.values term (values.Identifier text) f
 full-plain laws term (values.Code text) f = full-model laws.values term (values.Code text) f
@@ -447,7 +449,7 @@ modelled-untyped form term own = go form (suits form term) refl
     go forms.PlainDate true s = refl
     go forms.DueDateTypeCode true s = refl
     go forms.CodedNote true s = refl
-    go (forms.Typed letter) true s = absurd (false≢true (sym own ∙ (both (is_extension term) (not (is_base64 letter)) s).0))
+    go (forms.Typed data_type) true s = absurd (false≢true (sym own ∙ (both (is_extension term) (not (is_base64 data_type)) s).0))
     go forms.TypedPlainDate true s = absurd (false≢true (sym own ∙ s))
 
 -- A value is read by the type of its term, or by that of the form.
@@ -464,7 +466,7 @@ reads-as laws form term es c value whole own f = go (form_for form term) refl wh
     go forms.PlainDate e h = as-day laws term es c value (form-day form term (suits form term) refl e) f
     go forms.DueDateTypeCode e h = absurd (false≢true h)
     go forms.CodedNote e h = absurd (false≢true h)
-    go (forms.Typed letter) e h = absurd (false≢true (sym (modelled-untyped form term own) ∙ ap is_typed e))
+    go (forms.Typed data_type) e h = absurd (false≢true (sym (modelled-untyped form term own) ∙ ap is_typed e))
     go forms.TypedPlainDate e h = absurd (false≢true (sym (modelled-untyped form term own) ∙ ap is_typed e))
 
 -- Whatever term it is of, such a value isn't blank.
@@ -477,7 +479,7 @@ whole-full laws form term es c value whole f = go (form_for form term) refl whol
     go forms.PlainDate e h = (as-day laws term es c value (form-day form term (suits form term) refl e) f).full
     go forms.DueDateTypeCode e h = absurd (false≢true h)
     go forms.CodedNote e h = absurd (false≢true h)
-    go (forms.Typed letter) e h = full-model laws.values term value f
+    go (forms.Typed data_type) e h = full-model laws.values term value f
     go forms.TypedPlainDate e h = full-plain laws term value f
 
 pub model-is : (form : Form) → is_model form ≡ true → form ≡ forms.Model
@@ -485,7 +487,7 @@ model-is forms.Model h = refl
 model-is forms.PlainDate h = absurd (false≢true h)
 model-is forms.DueDateTypeCode h = absurd (false≢true h)
 model-is forms.CodedNote h = absurd (false≢true h)
-model-is (forms.Typed letter) h = absurd (false≢true h)
+model-is (forms.Typed data_type) h = absurd (false≢true h)
 model-is forms.TypedPlainDate h = absurd (false≢true h)
 
 -- ---- a code that another list spells
@@ -504,10 +506,10 @@ one-of-three text h = go (bytes_eq (codes "3") text) (bytes_eq (codes "35") text
 as-image : (term : Term) (es : List Entry) (c : Context) (value : Value) → is_imaged value ≡ true → ReadsAs forms.DueDateTypeCode term es c value
 unfolding is_white_space
 as-image term es c (values.Code text) h = elim (one-of-three text h) [
-  | inl e ↦ subst (λ x. ReadsAs forms.DueDateTypeCode term es c (values.Code x)) e (record { said = refl; full = refl })
+  | inl e ↦ subst (λ x. ReadsAs forms.DueDateTypeCode term es c (values.Code x)) e (record { parsed = refl; full = refl })
   | inr m ↦ elim m [
-    | inl e ↦ subst (λ x. ReadsAs forms.DueDateTypeCode term es c (values.Code x)) e (record { said = refl; full = refl })
-    | inr e ↦ subst (λ x. ReadsAs forms.DueDateTypeCode term es c (values.Code x)) e (record { said = refl; full = refl })
+    | inl e ↦ subst (λ x. ReadsAs forms.DueDateTypeCode term es c (values.Code x)) e (record { parsed = refl; full = refl })
+    | inr e ↦ subst (λ x. ReadsAs forms.DueDateTypeCode term es c (values.Code x)) e (record { parsed = refl; full = refl })
   ]
 ]
 as-image term es c (values.Text text) h = absurd (false≢true h)
@@ -548,8 +550,8 @@ coded-note (a ∷ (b ∷ (c ∷ []))) text h k =
     (λ i. elim (h i && not (k i)) [ true ↦ meaning.coded (a ∷ b ∷ c ∷ []) text | false ↦ meaning.plain_note (35 ∷ (a ∷ (b ∷ (c ∷ (35 ∷ text))))) ])
 
 by-its-type : ReadsBack → (term : Term) (value : Value) → is_extension term ≡ false → Fits term value → by_type term (spelled value) ≡ Some value
-by-its-type law term value own f = ap (λ x. option_and_then (λ letter. value_of letter (spelled value)) x) (modelled-type term f.letter f.typed own) ∙
-    law f.letter f.text value f.read
+by-its-type law term value own f = ap (λ x. option_and_then (λ data_type. value_of data_type (spelled value)) x) (modelled-type term f.data_type f.typed own) ∙
+    law f.data_type f.text value f.read
 
 -- A note is read as it: no subject code is in front and it hasn't the form of one behind a code, or one is in front that is
 -- one by its form.
@@ -565,8 +567,8 @@ as-note law term es c value is (inl (none, plain)) f =
     let model = as-model law term es c value (ap is_extension is) f in
     let string : formed forms.CodedNote es c value ≡ spelled value = ap (λ o. writing.coded_note o (spelled value)) none in
     record {
-      said = ap meaning.note_of string ∙ (plain-note (spelled value) plain ∙ (ap (λ t. record { term = t; value = by_type t (spelled value) } ∷ []) (sym is)
-          ∙ (model.said ∙ ap (λ o. record { term = term; value = Some value } ∷ elim o [
+      parsed = ap meaning.note_of string ∙ (plain-note (spelled value) plain ∙ (ap (λ t. record { term = t; value = by_type t (spelled value) } ∷ []) (sym is)
+          ∙ (model.parsed ∙ ap (λ o. record { term = term; value = Some value } ∷ elim o [
             | None ↦ []
             | Some code ↦ record { term = meaning.subject_code; value = Some code } ∷ []
           ]) (sym none))));
@@ -576,7 +578,7 @@ as-note law term es c value is (inr (code, (at, (subject, fits)))) f =
     let model = as-model law term es c value (ap is_extension is) f in
     let string : formed forms.CodedNote es c value ≡ 35 ∷ (spelled code ++ (35 ∷ spelled value)) = ap (λ o. writing.coded_note o (spelled value)) at in
     record {
-      said = ap meaning.note_of string ∙ (coded-note (spelled code) (spelled value) subject (not-true (is_blank (spelled value)) model.full)
+      parsed = ap meaning.note_of string ∙ (coded-note (spelled code) (spelled value) subject (not-true (is_blank (spelled value)) model.full)
           ∙ ((λ i. record { term = sym is i; value = by_type (sym is i) (spelled value) } ∷ (record {
             term = meaning.subject_code;
             value =
@@ -603,8 +605,8 @@ note-term forms.Model term true s e = absurd (let k : forms.Model ≡ forms.Code
 note-term forms.Model term false s e = absurd (let k : forms.Model ≡ forms.CodedNote = e in cc)
 note-term forms.DueDateTypeCode term true s e = absurd (let k : forms.DueDateTypeCode ≡ forms.CodedNote = e in cc)
 note-term forms.DueDateTypeCode term false s e = absurd (let k : forms.Model ≡ forms.CodedNote = e in cc)
-note-term (forms.Typed letter) term true s e = absurd (let k : forms.Typed letter ≡ forms.CodedNote = e in cc)
-note-term (forms.Typed letter) term false s e = absurd (let k : forms.Model ≡ forms.CodedNote = e in cc)
+note-term (forms.Typed data_type) term true s e = absurd (let k : forms.Typed data_type ≡ forms.CodedNote = e in cc)
+note-term (forms.Typed data_type) term false s e = absurd (let k : forms.Model ≡ forms.CodedNote = e in cc)
 note-term forms.TypedPlainDate term true s e = absurd (let k : forms.TypedPlainDate ≡ forms.CodedNote = e in cc)
 note-term forms.TypedPlainDate term false s e = absurd (let k : forms.Model ≡ forms.CodedNote = e in cc)
 
@@ -618,7 +620,7 @@ whole-back es forms.Model c value h k = (refl, λ e. absurd (let z : forms.Model
 whole-back es forms.PlainDate c value h k = (refl, λ e. absurd (let z : forms.PlainDate ≡ forms.CodedNote = e in cc))
 whole-back es forms.DueDateTypeCode c value h k = absurd (false≢true h)
 whole-back es forms.CodedNote c value h k = absurd (false≢true h)
-whole-back es (forms.Typed letter) c value h k = absurd (false≢true k)
+whole-back es (forms.Typed data_type) c value h k = absurd (false≢true k)
 whole-back es forms.TypedPlainDate c value h k = absurd (false≢true k)
 
 pub back-as : Laws → (form : Form) (term : Term) (es : List Entry) (c : Context) (value : Value) → IsBack es (form_for form term) c value → IsRead form term →
@@ -635,7 +637,7 @@ back-as laws form term es c value back read f = go (form_for form term) refl bac
     go forms.PlainDate e h = as-day laws term es c value (form-day form term (suits form term) refl e) f
     go forms.DueDateTypeCode e h = as-image term es c value h.0
     go forms.CodedNote e h = as-note laws.values term es c value (note-term form term (suits form term) refl e) (h.1 refl) f
-    go (forms.Typed letter) e h = as-typed laws letter term es c value h.0 f
+    go (forms.Typed data_type) e h = as-typed laws data_type term es c value h.0 f
     go forms.TypedPlainDate e h = as-typed-day laws term es c value h.0 f
 
 -- Whatever term it is of, such a value isn't blank.
@@ -648,7 +650,7 @@ back-full laws form term es c value back f = go (form_for form term) refl back
     go forms.PlainDate e h = (as-day laws term es c value (form-day form term (suits form term) refl e) f).full
     go forms.DueDateTypeCode e h = (as-image term es c value h.0).full
     go forms.CodedNote e h = (as-note laws.values term es c value (note-term form term (suits form term) refl e) (h.1 refl) f).full
-    go (forms.Typed letter) e h = full-model laws.values term value f
+    go (forms.Typed data_type) e h = full-model laws.values term value f
     go forms.TypedPlainDate e h = full-plain laws term value f
 
 -- what a row whose form has a type takes is read back
@@ -664,26 +666,27 @@ typed-back es form c value typed own = (reads form typed own, λ e. absurd (fals
     reads forms.PlainDate t k = absurd (false≢true t)
     reads forms.DueDateTypeCode t k = absurd (false≢true t)
     reads forms.CodedNote t k = absurd (false≢true t)
-    reads (forms.Typed letter) t k = passed (is_of_type letter value) k
-    reads forms.TypedPlainDate t k = passed (is_of_type letters.D value) k
+    reads (forms.Typed data_type) t k = passed (is_of_type data_type value) k
+    reads forms.TypedPlainDate t k = passed (is_of_type data_types.D value) k
 
 -- what is said beside a value is its subject code
-pub record IsCodeSaid (form : Form) (es : List Entry) (c : Context) (said : Said) : Type 0 where
+pub record IsCodeSaid (form : Form) (es : List Entry) (c : Context) (parsed : ParsedValue) : Type 0 where
   pub code : Value
   pub at : value_in es meaning.subject_code c ≡ Some code
-  pub is : record { term = meaning.subject_code; value = Some code } ≡ said
+  pub is : record { term = meaning.subject_code; value = Some code } ≡ parsed
   pub form_is : form ≡ forms.CodedNote
 
-pub of-code-said : (form : Form) (es : List Entry) (c : Context) (said : Said) → Among said (code_said form es c) → IsCodeSaid form es c said
-of-code-said forms.Model es c said a = absurd a
-of-code-said forms.PlainDate es c said a = absurd a
-of-code-said forms.DueDateTypeCode es c said a = absurd a
-of-code-said (forms.Typed letter) es c said a = absurd a
-of-code-said forms.TypedPlainDate es c said a = absurd a
-of-code-said forms.CodedNote es c said a = go (value_in es meaning.subject_code c) refl a
+pub of-code-parsed : (form : Form) (es : List Entry) (c : Context) (parsed : ParsedValue) → Among parsed (code_said form es c) → IsCodeSaid form es c parsed
+of-code-parsed forms.Model es c parsed a = absurd a
+of-code-parsed forms.PlainDate es c parsed a = absurd a
+of-code-parsed forms.DueDateTypeCode es c parsed a = absurd a
+of-code-parsed (forms.Typed data_type) es c parsed a = absurd a
+of-code-parsed forms.TypedPlainDate es c parsed a = absurd a
+of-code-parsed forms.CodedNote es c parsed a = go (value_in es meaning.subject_code c) refl a
   where
     go : (o : Option Value) → value_in es meaning.subject_code c ≡ o →
-        Among said (elim o [ None ↦ [] | Some code ↦ record { term = meaning.subject_code; value = Some code } ∷ [] ]) → IsCodeSaid forms.CodedNote es c said
+        Among parsed (elim o [ None ↦ [] | Some code ↦ record { term = meaning.subject_code; value = Some code } ∷ [] ])
+            → IsCodeSaid forms.CodedNote es c parsed
     go None e m = absurd m
     go (Some code) e (inl is) = record { code = code; at = e; is = is; form_is = refl }
     go (Some code) e (inr z) = absurd z
@@ -693,5 +696,5 @@ whole-uncoded forms.Model es c h = refl
 whole-uncoded forms.PlainDate es c h = refl
 whole-uncoded forms.DueDateTypeCode es c h = absurd (false≢true h)
 whole-uncoded forms.CodedNote es c h = absurd (false≢true h)
-whole-uncoded (forms.Typed letter) es c h = refl
+whole-uncoded (forms.Typed data_type) es c h = refl
 whole-uncoded forms.TypedPlainDate es c h = refl

@@ -67,7 +67,7 @@ gone-row gone es row c unheld h = by-content row.content h
 
     by-rule : (rule : Written) (term : Term) (d : Context) → (elim rule [
       | written.Never ↦ true
-      | (written.OrFiller filler) ↦ list_any (same_term term) gone && list_any (same_term filler.beside) gone
+      | (written.OrPlaceholder placeholder) ↦ list_any (same_term term) gone && list_any (same_term placeholder.beside) gone
       | _ ↦ list_any (same_term term) gone
     ]) ≡ true
         → ◌≡◌ {A = Option (List ℕ)} (elim (value_for row es term d) [
@@ -80,16 +80,16 @@ gone-row gone es row c unheld h = by-content row.content h
     by-rule written.IfNotIban term d k = none written.IfNotIban term d k refl
     by-rule written.IfScheme term d k = none written.IfScheme term d k refl
     by-rule written.IfNoScheme term d k = none written.IfNoScheme term d k refl
-    by-rule (written.OrFiller filler) term d k =
-        let w = both-true (list_any (same_term term) gone) (list_any (same_term filler.beside) gone) k in
-        none (written.OrFiller filler) term d w.0 (ap (λ o. if_so (is_some o) filler.text) (gone-value gone es filler.beside d unheld w.1))
+    by-rule (written.OrPlaceholder placeholder) term d k =
+        let w = both-true (list_any (same_term term) gone) (list_any (same_term placeholder.beside) gone) k in
+        none (written.OrPlaceholder placeholder) term d w.0 (ap (λ o. if_so (is_some o) placeholder.text) (gone-value gone es placeholder.beside d unheld w.1))
     by-rule written.VatTotal term d k = none written.VatTotal term d k refl
     by-rule written.AccountingVatTotal term d k = none written.AccountingVatTotal term d k refl
 
     by-content : (content : Content) → (elim content [
       | (contents.Term term) ↦ elim row.written [
         | written.Never ↦ true
-        | (written.OrFiller filler) ↦ list_any (same_term term) gone && list_any (same_term filler.beside) gone
+        | (written.OrPlaceholder placeholder) ↦ list_any (same_term term) gone && list_any (same_term placeholder.beside) gone
         | _ ↦ list_any (same_term term) gone
       ]
       | (contents.Constant text) ↦ true

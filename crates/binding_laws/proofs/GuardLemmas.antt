@@ -496,12 +496,12 @@ module _ (es : List Entry) where
             ap (λ s. is_one_of texts (trimmed s)) (sym v.2) ∙ no-text term (context_for row d) v.0 v.1 texts w.1
 
     -- none of the texts stands at the place
-    never-said : (t : Step) (cells : List Cell) (inside : Plan) (d : Context) (leaf : Leaf) (path : List ElementName) (texts : List (List ℕ)) →
+    never-parsed : (t : Step) (cells : List Cell) (inside : Plan) (d : Context) (leaf : Leaf) (path : List ElementName) (texts : List (List ℕ)) →
         never_says known inside leaf path texts ≡ true
         → list_any (is_one_of texts) (strings_here leaf path t cells inside d) ≡ false
-    never-said t cells inside d leaf [] texts h = absurd (false≢true h)
-    never-said t cells inside d leaves.Element (name ∷ path) texts h = absurd (false≢true h)
-    never-said t cells inside d (leaves.Attribute local) (name ∷ path) texts h =
+    never-parsed t cells inside d leaf [] texts h = absurd (false≢true h)
+    never-parsed t cells inside d leaves.Element (name ∷ path) texts h = absurd (false≢true h)
+    never-parsed t cells inside d (leaves.Attribute local) (name ∷ path) texts h =
         let w = both-true (not (bytes_eq local currency_id)) (list_all (is_unlike known texts) (rows_below local inside (name ∷ path))) h in
         ap (list_any (is_one_of texts)) (over-text name (strings_in (leaves.Attribute local) path) (element_text es cells d) (written_lines es inside true d))
         ∙ none-any (is_one_of texts) (over name (strings_in (leaves.Attribute local) path) (written_lines es inside true d))
@@ -644,7 +644,7 @@ module _ (es : List Entry) where
         ]) ≡ true
         → passes test (strings_here leaf path t cells inside d) ≡ true
     value-met t cells inside d at k (tests.OneOf texts) leaf path h = absurd (false≢true h)
-    value-met t cells inside d at k (tests.NoneOf texts) leaf path h = ap not (never-said t cells inside d leaf path texts h)
+    value-met t cells inside d at k (tests.NoneOf texts) leaf path h = ap not (never-parsed t cells inside d leaf path texts h)
     value-met t cells inside d at k tests.Present leaf path h = surely-full t cells inside d at leaf path h k
     value-met t cells inside d at k tests.Absent leaf path h = absurd (false≢true h)
 
@@ -656,7 +656,7 @@ module _ (es : List Entry) where
           | tests.Absent ↦ is_surely_full known t cells inside leaf path
         ]) ≡ true
         → passes test (strings_here leaf path t cells inside d) ≡ false
-    value-unmet t cells inside d at k (tests.OneOf texts) leaf path h = never-said t cells inside d leaf path texts h
+    value-unmet t cells inside d at k (tests.OneOf texts) leaf path h = never-parsed t cells inside d leaf path texts h
     value-unmet t cells inside d at k (tests.NoneOf texts) leaf path h = absurd (false≢true h)
     value-unmet t cells inside d at k tests.Present leaf path h = absurd (false≢true h)
     value-unmet t cells inside d at k tests.Absent leaf path h = ap not (surely-full t cells inside d at leaf path h k)

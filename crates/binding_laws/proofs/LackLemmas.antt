@@ -16,15 +16,15 @@ use Rattle.term_table.specs.Contexts.{has_context}
 use Rattle.term_table.specs.Places.{place, place_of, first_row}
 use Rattle.inv_terms.specs.declared.entries.Entry.{Entry}
 use Rattle.inv_terms.specs.Listing.{is_placed}
-use Rattle.inv_terms.specs.declared.lacks.Name.{Name}
-use Rattle.inv_terms.specs.declared.lacks.Name.TheVariants as names
-use Rattle.inv_terms.specs.declared.lacks.TermFault.TheVariants as faults
-use Rattle.inv_terms.specs.declared.lacks.Lack.{Lack}
+use Rattle.inv_terms.specs.declared.violations.Name.{Name}
+use Rattle.inv_terms.specs.declared.violations.Name.TheVariants as names
+use Rattle.inv_terms.specs.declared.violations.TermFault.TheVariants as faults
+use Rattle.inv_terms.specs.declared.violations.ModelViolation.{ModelViolation}
 use Rattle.inv_terms.specs.Lacking.{is_at, is_around, shows_its_group, has_term, stands, decided, first_decided, is_there, whole_term, is_needed, is_slot_in}
 use Rattle.inv_terms.specs.Lacking.{is_at_least_once, lacks_group, missing_at, missing_from}
 use Rattle.inv_terms.specs.Validity.{is_unlisted}
-use Rattle.inv_terms.specs.Whole.{IsContextOf, IsValid, IsLack, seats_in}
-use Rattle.inv_terms.proofs.FirstLemmas.{each_lack}
+use Rattle.inv_terms.specs.Whole.{IsContextOf, IsValid, IsViolation, seats_in}
+use Rattle.inv_terms.proofs.FirstLemmas.{each_violation}
 use Rattle.inv_terms.proofs.ValidLemmas.{valid}
 use Rattle.binding_laws.proofs.ReachLemmas.{Among}
 use Rattle.binding_laws.proofs.PlainLemmas.{among-contains}
@@ -32,9 +32,9 @@ use Rattle.binding_laws.proofs.PlainLemmas.{among-contains}
 -- ---- a valid invoice has no lack
 
 module _ (es : List Entry) (lists : Lists) (is_valid : IsValid es lists) where
-  no-lack : (m : Lack) → IsLack es lists m → ⊥
-  no-lack m is =
-      let w = each_lack es lists m is in
+  no-violation : (m : ModelViolation) → IsViolation es lists m → ⊥
+  no-violation m is =
+      let w = each_violation es lists m is in
       let z : None ≡ Some w.0 = sym ((valid es lists).1 is_valid) ∙ w.1 in
       cc
 
@@ -43,8 +43,8 @@ module _ (es : List Entry) (lists : Lists) (is_valid : IsValid es lists) where
     where
       go : (o : Option Name) → missing_at (seats_in es c) c k row ≡ o → o ≡ None
       go None e = refl
-      go (Some name) e = absurd (no-lack (record { place = place k c; fault = faults.Missing name })
-          (inl (record { context = c; is_context = shown; number = k; row = row; is_row = is_row; name = name; missing = e; lack_is = refl })))
+      go (Some name) e = absurd (no-violation (record { place = place k c; fault = faults.Missing name })
+          (inl (record { context = c; is_context = shown; number = k; row = row; is_row = is_row; name = name; missing = e; violation_is = refl })))
 
   some-place : (o : Option (List ℕ)) → is_some o ≡ true → (p : List ℕ) × (o ≡ Some p)
   some-place None h = absurd (false≢true h)
@@ -57,7 +57,7 @@ module _ (es : List Entry) (lists : Lists) (is_valid : IsValid es lists) where
       go false h = refl
       go true h =
           let w = some-place (place_of e.term e.context) placed in
-          absurd (no-lack (record { place = w.0; fault = faults.CodeNotListed e.term })
+          absurd (no-violation (record { place = w.0; fault = faults.CodeNotListed e.term })
           (inr (
             e,
             among-contains e es a,
@@ -92,14 +92,14 @@ module _ (xs ys : List Seat) (same : (p : Seat → Bool) → list_any p xs ≡ l
   needed-same : (row : TermRow) → is_needed xs c row ≡ is_needed ys c row
   needed-same row = λ i. elim row.mark [ marks.One ↦ there-same row.group i | marks.Optional ↦ false | marks.After ↦ same (is_at c (whole_term row.term)) i ]
 
-  lacks-same : (k : ℕ) (row : TermRow) → lacks_group xs c k row ≡ lacks_group ys c k row
-  lacks-same k row =
+  violations-same : (k : ℕ) (row : TermRow) → lacks_group xs c k row ≡ lacks_group ys c k row
+  violations-same k row =
       ap (λ b. is_at_least_once (occurrence_of row.group) && ((k == first_row row.group) && (has_context (parent_of row.group) c && not b)))
       (same (λ (s : Seat). is_slot_in row.group s.context.outer || is_slot_in row.group s.context.inner))
 
   pub missing-same : (k : ℕ) (row : TermRow) → missing_at xs c k row ≡ missing_at ys c k row
   missing-same k row = λ i. if has_context row.group c then (if needed-same row i && not (same (is_at c row.term) i) then Some (names.Term row.term) else None)
-      else (if lacks-same k row i then Some (names.Group row.group) else None)
+      else (if violations-same k row i then Some (names.Group row.group) else None)
 
 pub missing-none : (seats : List Seat) (c : Context) (n : ℕ) (rows : List TermRow) →
     ((k : ℕ) (row : TermRow) → slice_get rows k ≡ Some row → missing_at seats c (n + k) row ≡ None) → missing_from seats c n rows ≡ None

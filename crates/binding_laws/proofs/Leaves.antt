@@ -10,8 +10,8 @@ use Rattle.term_table.specs.Groups.{parent_of, occurrence_of}
 use Rattle.ubl_binding.specs.Tables.{invoice_listing, invoice_rows, credit_note_listing, credit_note_rows}
 use Rattle.cii_binding.specs.Table.{cii_listing, cii_rows}
 use Rattle.bind_rows.specs.declared.rows.Row.{Row}
-use Rattle.bind_rows.specs.declared.tables.Which.{Which}
-use Rattle.bind_rows.specs.declared.tables.Which.TheVariants as which
+use Rattle.bind_rows.specs.declared.tables.DocumentType.{DocumentType}
+use Rattle.bind_rows.specs.declared.tables.DocumentType.TheVariants as document_type
 use Rattle.bind_meaning.specs.Tables.{rows_of}
 use Rattle.bind_meaning.specs.Picks.{has_term}
 use Rattle.binding_laws.specs.Apart.{Unlike, Together, unknown, stands_apart_without}
@@ -78,11 +78,11 @@ accounting_total = record { number = 111; part = 0 }
 abbrev are_totals_apart : List Row → Bool
 are_totals_apart rows = list_all (λ (row : Row). not (has_term vat_total row) || stands_apart_without (accounting_total ∷ []) rows row.path) rows
 
-pub totals-apart : (table : Which) → are_totals_apart (rows_of table) ≡ true
+pub totals-apart : (table : DocumentType) → are_totals_apart (rows_of table) ≡ true
 unfolding is_white_space invoice_listing invoice_rows credit_note_listing credit_note_rows cii_listing cii_rows
-totals-apart which.Invoice = refl
-totals-apart which.CreditNote = refl
-totals-apart which.Cii = refl
+totals-apart document_type.Invoice = refl
+totals-apart document_type.CreditNote = refl
+totals-apart document_type.Cii = refl
 
 -- ---- what is asked of invoices, so that values tell rows apart
 

@@ -25,7 +25,7 @@ pub mod SilentLemmas
 pub mod TwinLemmas
 pub mod TotalLemmas
 pub mod CoverLemmas
-pub mod FillerLemmas
+pub mod PlaceholderLemmas
 pub mod BothLemmas
 pub mod RoundLemmas
 pub mod PairLemmas

@@ -35,7 +35,7 @@ use Rattle.inv_terms.specs.Values.{is_blank, trimmed, spelled, same_value}
 use Rattle.inv_terms.specs.Listing.{IsInvoice, value_in, seat_of as seat_of_entry}
 use Rattle.inv_terms.specs.Lacking as lacking
 use Rattle.inv_terms.specs.Lacking.{whole_term, is_there, first_decided, is_needed, is_missing}
-use Rattle.inv_terms.specs.declared.lacks.Name.TheVariants as names
+use Rattle.inv_terms.specs.declared.violations.Name.TheVariants as names
 use Rattle.inv_terms.specs.Validity.{list_of, code_in, is_outside}
 use Rattle.inv_terms.specs.Whole.{IsContextOf, IsValid, seats_in}
 use Rattle.inv_terms.proofs.MapLemmas.{any-map}
@@ -55,7 +55,7 @@ use Rattle.bind_rows.specs.declared.rows.Written.TheVariants as written
 use Rattle.bind_table.specs.Lines.{plan_of}
 use Rattle.bind_table.specs.WellFormed.{first_fault}
 use Rattle.bind_meaning.specs.declared.picked.Seated.{Seated}
-use Rattle.bind_meaning.specs.Values.{Said, subject_code, note, suits, form_for}
+use Rattle.bind_meaning.specs.Values.{ParsedValue, subject_code, note, suits, form_for}
 use Rattle.bind_meaning.specs.Elements.{attributes_named, string_at, is_full, is_one_of}
 use Rattle.bind_meaning.specs.Picks.{Pick, has_term, term_in, has_any_term, Numbered, numbered, rows_where, last_of, leaves_of, picks_of_way, ways}
 use Rattle.bind_meaning.specs.Picks.{nodes_picked}
@@ -102,7 +102,8 @@ use Rattle.binding_laws.proofs.FaultLemmas.{IsFine, IsFair, no-faults}
 use Rattle.binding_laws.proofs.OnceLemmas.{MayBoth, picks-rising, same-place, seat-context}
 use Rattle.binding_laws.proofs.CoverLemmas.{row-at, fact-at, full-string, part-values}
 use Rattle.binding_laws.proofs.BothLemmas.{is_amount_as}
-use Rattle.binding_laws.proofs.RoundLemmas.{FromRow, currency-read, numbered-row, row-back, of-picks, context-at, said-at, told-by-pick, told-entry, entry-told}
+use Rattle.binding_laws.proofs.RoundLemmas.{FromRow, currency-read, numbered-row, row-back, of-picks, context-at, parsed-at, told-by-pick, told-entry}
+use Rattle.binding_laws.proofs.RoundLemmas.{entry-told}
 use Rattle.binding_laws.proofs.RoundLemmas.{entries-read, none-inside}
 
 -- ---- equal values
@@ -145,7 +146,7 @@ no-code-amount forms.Model = refl
 no-code-amount forms.PlainDate = refl
 no-code-amount forms.DueDateTypeCode = refl
 no-code-amount forms.CodedNote = refl
-no-code-amount (forms.Typed letter) = refl
+no-code-amount (forms.Typed data_type) = refl
 no-code-amount forms.TypedPlainDate = refl
 
 -- ---- rows as the tests say of them
@@ -409,7 +410,7 @@ module _ (law : Laws) (rows : List Row) (es : List Entry) (invoice : IsInvoice e
       by-room room w.0 f.told_is.e f.told_is.known (ap context_of (sym v.1.1) ∙ at-entry v.0 v.1.0 f) (among-split room (outer_room w.0) (inner_room w.0) w.1.1)
 
   seat-is : (t : Told) (e : Entry) → Tells es invoice.listed t e → seat_of t ≡ seat_of_entry e
-  seat-is t e k = λ i. record { term = (ap (λ (x : Said). x.term) k.said) i; context = k.context i }
+  seat-is t e k = λ i. record { term = (ap (λ (x : ParsedValue). x.term) k.parsed) i; context = k.context i }
 
   abbrev seats_inside : Context → List Seat
   seats_inside c = filter (λ (s : Seat). is_inside c s.context) (map seat_of them)
@@ -441,18 +442,18 @@ module _ (law : Laws) (rows : List Row) (es : List Entry) (invoice : IsInvoice e
           (among-filter (λ (s : Seat). is_inside c s.context) w.0 (map seat_of them) (ap (λ (s : Seat). is_inside c s.context) (sym v.1.1) ∙ u.1)
           (subst (λ s. Among s (map seat_of them)) same (among-map seat_of k.0 them k.1.0)))
 
-  nothing-lacks : (room : Room) → Among room (rooms seated) → missing_in doc (map seat_of them) room ≡ []
-  nothing-lacks room a =
-      ap (λ o. elim o [ None ↦ [] | Some lack ↦ found (missing_place doc room lack.place) kinds.Missing (name_of lack.fault) room.element ∷ [] ])
+  nothing-violations : (room : Room) → Among room (rooms seated) → missing_in doc (map seat_of them) room ≡ []
+  nothing-violations room a =
+      ap (λ o. elim o [ None ↦ [] | Some violation ↦ found (missing_place doc room violation.place) kinds.Missing (name_of violation.fault) room.element ∷ [] ])
       (missing-none (seats_inside room.context) room.context 0 terms (λ k row at.
       let zero_more : 0 + k ≡ k = omega arith in
       ap (λ i. lacking.missing_at (seats_inside room.context) room.context i row) zero_more
       ∙ (missing-same (seats_inside room.context) (seats_in es room.context) (seats-same room.context) room.context k row
       ∙ nothing-missing es lists is_valid room.context (room-context room a) k row at)))
 
-  no-lacks : flat_map (missing_in doc (map seat_of them)) (rooms seated) ≡ []
-  no-lacks = flat_map-none (missing_in doc (map seat_of them)) (rooms seated)
-      (each-from (λ room. missing_in doc (map seat_of them) room ≡ []) (rooms seated) nothing-lacks)
+  no-violations : flat_map (missing_in doc (map seat_of them)) (rooms seated) ≡ []
+  no-violations = flat_map-none (missing_in doc (map seat_of them)) (rooms seated)
+      (each-from (λ room. missing_in doc (map seat_of them) room ≡ []) (rooms seated) nothing-violations)
 
   -- ---- schemes
 
@@ -556,7 +557,7 @@ module _ (law : Laws) (rows : List Row) (es : List Entry) (invoice : IsInvoice e
   if-scheme-is written.IfIban h = absurd (false≢true h)
   if-scheme-is written.IfNotIban h = absurd (false≢true h)
   if-scheme-is written.IfNoScheme h = absurd (false≢true h)
-  if-scheme-is (written.OrFiller filler) h = absurd (false≢true h)
+  if-scheme-is (written.OrPlaceholder placeholder) h = absurd (false≢true h)
   if-scheme-is written.VatTotal h = absurd (false≢true h)
   if-scheme-is written.AccountingVatTotal h = absurd (false≢true h)
 
@@ -725,7 +726,7 @@ module _ (law : Laws) (rows : List Row) (es : List Entry) (invoice : IsInvoice e
       no-accounting written.IfNotIban h = refl
       no-accounting written.IfScheme h = refl
       no-accounting written.IfNoScheme h = refl
-      no-accounting (written.OrFiller filler) h = refl
+      no-accounting (written.OrPlaceholder placeholder) h = refl
       no-accounting written.VatTotal h = refl
       no-accounting written.AccountingVatTotal h = h
 
@@ -812,17 +813,17 @@ module _ (law : Laws) (rows : List Row) (es : List Entry) (invoice : IsInvoice e
   -- ---- and beside the others
 
   abbrev the_told : (pick : Pick) → From pick → Told
-  the_told pick f = record { placed = placed doc picks pick; said = record { term = f.term; value = Some f.told_is.e.value } }
+  the_told pick f = record { placed = placed doc picks pick; parsed = record { term = f.term; value = Some f.told_is.e.value } }
 
   abbrev the_code : Pick → Value → Told
-  the_code pick code = record { placed = placed doc picks pick; said = record { term = subject_code; value = Some code } }
+  the_code pick code = record { placed = placed doc picks pick; parsed = record { term = subject_code; value = Some code } }
 
   -- a subject code in front of what the pick says
   record IsCodeOf (pick : Pick) (f : From pick) (t : Told) : Type 0 where
     code : Value
     at : value_in es subject_code f.told_is.e.context ≡ Some code
     form : form_for pick.row.form f.term ≡ forms.CodedNote
-    is : record { placed = placed doc picks pick; said = record { term = subject_code; value = Some code } } ≡ t
+    is : record { placed = placed doc picks pick; parsed = record { term = subject_code; value = Some code } } ≡ t
 
   abbrev IsTheTold : Pick → Told → Type 0
   IsTheTold pick t = Among pick picks × ((f : From pick) × ((the_told pick f ≡ t) ⊎ IsCodeOf pick f t))
@@ -904,12 +905,12 @@ module _ (law : Laws) (rows : List Row) (es : List Entry) (invoice : IsInvoice e
   told_at pick = told_by doc (placed doc picks pick)
 
   abbrev codes_of : Pick → (f : Form) → Context → List Told
-  codes_of pick form c = map (λ s. record { placed = placed doc picks pick; said = s }) (code_said form es c)
+  codes_of pick form c = map (λ s. record { placed = placed doc picks pick; parsed = s }) (code_said form es c)
 
   told-list : (pick : Pick) (f : From pick) → told_at pick ≡ the_told pick f ∷ codes_of pick (form_for pick.row.form f.term) f.told_is.e.context
   told-list pick f =
-      ap (map (λ s. record { placed = placed doc picks pick; said = s }))
-      (said-at law rows es invoice long_paths fine settled plainly money own_money pick f.term
+      ap (map (λ s. record { placed = placed doc picks pick; parsed = s }))
+      (parsed-at law rows es invoice long_paths fine settled plainly money own_money pick f.term
       (record { term = f.term; value = Some f.told_is.e.value } ∷ code_said (form_for pick.row.form f.term) es f.told_is.e.context) f.cover.content
       f.told_is.says)
 
@@ -928,9 +929,9 @@ module _ (law : Laws) (rows : List Row) (es : List Entry) (invoice : IsInvoice e
     where
       coded : (o : Option Value) → value_in es subject_code f.told_is.e.context ≡ o → form_for pick.row.form f.term ≡ forms.CodedNote
           → Rising (IsFair es invoice.listed doc lists money)
-          (the_told pick f ∷ map (λ s. record { placed = placed doc picks pick; said = s })
+          (the_told pick f ∷ map (λ s. record { placed = placed doc picks pick; parsed = s })
           (elim o [ None ↦ [] | Some code ↦ record { term = subject_code; value = Some code } ∷ [] ]))
-          × Each (IsTheTold pick) (the_told pick f ∷ map (λ s. record { placed = placed doc picks pick; said = s })
+          × Each (IsTheTold pick) (the_told pick f ∷ map (λ s. record { placed = placed doc picks pick; parsed = s })
           (elim o [ None ↦ [] | Some code ↦ record { term = subject_code; value = Some code } ∷ [] ]))
       coded None at form = ((tt, tt), ((a, (f, inl refl)), tt))
       coded (Some code) at form = (
@@ -944,7 +945,7 @@ module _ (law : Laws) (rows : List Row) (es : List Entry) (invoice : IsInvoice e
       go forms.Model e = ((tt, tt), ((a, (f, inl refl)), tt))
       go forms.PlainDate e = ((tt, tt), ((a, (f, inl refl)), tt))
       go forms.DueDateTypeCode e = ((tt, tt), ((a, (f, inl refl)), tt))
-      go (forms.Typed letter) e = ((tt, tt), ((a, (f, inl refl)), tt))
+      go (forms.Typed data_type) e = ((tt, tt), ((a, (f, inl refl)), tt))
       go forms.TypedPlainDate e = ((tt, tt), ((a, (f, inl refl)), tt))
       go forms.CodedNote e = coded (value_in es subject_code f.told_is.e.context) refl e
 
@@ -961,7 +962,7 @@ module _ (law : Laws) (rows : List Row) (es : List Entry) (invoice : IsInvoice e
 
   pub no-fault : all_faults doc lists money rows seated ≡ []
   no-fault =
-      (λ i. no-faults es invoice.listed doc lists money [] them fine-told (λ u t a b. absurd a) all-fair i ++ (no-wrong-words i ++ no-lacks i))
+      (λ i. no-faults es invoice.listed doc lists money [] them fine-told (λ u t a b. absurd a) all-fair i ++ (no-wrong-words i ++ no-violations i))
 
   pub read-exactly : terms_of doc rows lists ≡ Ok (record { entries = es; passed_over = 0 })
   unfolding terms_of

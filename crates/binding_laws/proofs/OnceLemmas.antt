@@ -31,7 +31,8 @@ use Rattle.bind_table.proofs.SameLemmas.{group-sound, pointwise-sound}
 use Rattle.bind_meaning.specs.Values.{form_for}
 use Rattle.bind_meaning.specs.Elements.{string_at}
 use Rattle.bind_meaning.specs.Judging.{may_repeat}
-use Rattle.bind_meaning.specs.Picks.{Pick, has_term, term_in, has_any_term, Numbered, numbered, rows_where, all_picked, is_filler, without_fillers, last_of}
+use Rattle.bind_meaning.specs.Picks.{Pick, has_term, term_in, has_any_term, Numbered, numbered, rows_where, all_picked, is_placeholder, without_placeholders}
+use Rattle.bind_meaning.specs.Picks.{last_of}
 use Rattle.bind_meaning.specs.Picks.{leaves_of, picks_of_way, nodes_picked}
 use Rattle.bind_meaning.specs.Currencies.{Currencies, is_in_its_currency, in_their_currencies}
 use Rattle.bind_meaning.specs.Seats.{placed, context_of}
@@ -445,8 +446,8 @@ module _ (law : Laws) (rows : List Row) (es : List Entry) (invoice : IsInvoice e
 
   pub picks-rising : Rising MayBoth picks
   picks-rising =
-      in-order-rising MayBoth turn nodes (in_their_currencies nodes c (without_fillers nodes (all_picked nodes (rows_where has_any_term rows))))
-      (rising-filter MayBoth (is_in_its_currency nodes c) (without_fillers nodes (all_picked nodes (rows_where has_any_term rows)))
-      (rising-filter MayBoth (λ (x : Pick). not (is_filler nodes (all_picked nodes (rows_where has_any_term rows)) x))
+      in-order-rising MayBoth turn nodes (in_their_currencies nodes c (without_placeholders nodes (all_picked nodes (rows_where has_any_term rows))))
+      (rising-filter MayBoth (is_in_its_currency nodes c) (without_placeholders nodes (all_picked nodes (rows_where has_any_term rows)))
+      (rising-filter MayBoth (λ (x : Pick). not (is_placeholder nodes (all_picked nodes (rows_where has_any_term rows)) x))
       (all_picked nodes (rows_where has_any_term rows)) all-rising))
       (subst (Rising Below) (sym (numbers law rows es invoice)) (range-rising 0 (long law rows es invoice)))

@@ -35,8 +35,9 @@ use Rattle.bind_meaning.specs.Currencies.{currency_id}
 use Rattle.binding_laws.specs.Apart as apart
 use Rattle.binding_laws.specs.Apart.{is_attribute_named, is_at_attribute, is_nothing, Known, without, unknown, beyond, is_met_or_unwritten, is_off, is_clear}
 use Rattle.binding_laws.specs.Apart.{is_apart, stands_apart_without, stands_apart}
-use Rattle.binding_laws.specs.Covered.{is_coded, is_noted_in, is_or_filler, is_filled_there, is_filled_in, is_total_rule, is_accounting_rule, accounting_terms}
-use Rattle.binding_laws.specs.Covered.{total_terms, beside_filler, is_total_there, is_half, are_pair_there, are_pair, unpaired_terms, is_total_in}
+use Rattle.binding_laws.specs.Covered.{is_coded, is_noted_in, is_or_placeholder, is_filled_there, is_filled_in, is_total_rule, is_accounting_rule}
+use Rattle.binding_laws.specs.Covered.{accounting_terms}
+use Rattle.binding_laws.specs.Covered.{total_terms, beside_placeholder, is_total_there, is_half, are_pair_there, are_pair, unpaired_terms, is_total_in}
 use Rattle.binding_laws.specs.Twins.{same_way, are_twins}
 use Rattle.binding_laws.specs.Faultless.{is_no_row}
 use Rattle.binding_laws.specs.Plain.{rows_at, stands_there, groups_of, listed, IsPlainThere, IsPlain, is_one, is_element, is_whole, is_of_one_term, is_always}
@@ -261,7 +262,7 @@ rule-is written.IfIban h = absurd (false≢true h)
 rule-is written.IfNotIban h = absurd (false≢true h)
 rule-is written.IfScheme h = absurd (false≢true h)
 rule-is written.IfNoScheme h = absurd (false≢true h)
-rule-is (written.OrFiller filler) h = absurd (false≢true h)
+rule-is (written.OrPlaceholder placeholder) h = absurd (false≢true h)
 rule-is written.VatTotal h = absurd (false≢true h)
 rule-is written.AccountingVatTotal h = absurd (false≢true h)
 
@@ -322,7 +323,7 @@ coded-is forms.Model h = absurd (false≢true h)
 coded-is forms.PlainDate h = absurd (false≢true h)
 coded-is forms.DueDateTypeCode h = absurd (false≢true h)
 coded-is forms.CodedNote h = refl
-coded-is (forms.Typed letter) h = absurd (false≢true h)
+coded-is (forms.Typed data_type) h = absurd (false≢true h)
 coded-is forms.TypedPlainDate h = absurd (false≢true h)
 
 no-group : (o : Option Group) → is_none o ≡ true → o ≡ None
@@ -357,9 +358,9 @@ pub spread-by-test : (rows : List Row) (j : ℕ) (row : Row) (term : Term) → A
     is_spread rows row term ≡ true → IsSpread rows row term
 spread-by-test rows j row term long e h = spread-with-test unknown rows j row term long e h
 
--- It is spread, but for a filler that may stand in its place.
+-- It is spread, but for a placeholder that may stand in its place.
 pub record IsFilled (rows : List Row) (row : Row) (term : Term) : Type 0 where
-  pub filler : is_or_filler row.written ≡ true
+  pub placeholder : is_or_placeholder row.written ≡ true
   pub apart : stands_apart rows row.path ≡ true
   pub own : rows_at is_at_element (plan_of rows) row.path ≡ row ∷ []
   pub leaf : row.leaf ≡ leaves.Element
@@ -381,7 +382,7 @@ filled-by-test rows j row term long e h =
     let i = both-true (is_none row.outer) _ f.1 in
     let l = both-true (is_none row.inner) _ i.1 in
     record {
-      filler = g.0;
+      placeholder = g.0;
       apart = a.0;
       own = row-known unknown is_at_element rows j row long e a.0 (λ k. at-element (leaf-is row.leaf c.0)) b.0;
       leaf = leaf-is row.leaf c.0;
@@ -392,9 +393,9 @@ filled-by-test rows j row term long e h =
       context = l.1;
     }
   where
-    filled-says : (row : Row) (term : Term) → is_filled_in (plan_of rows) row term ≡ true → (is_or_filler row.written ≡ true) ×
+    filled-says : (row : Row) (term : Term) → is_filled_in (plan_of rows) row term ≡ true → (is_or_placeholder row.written ≡ true) ×
         (is_filled_there (plan_of rows) row term ≡ true)
-    filled-says row term k = go (is_or_filler row.written) k
+    filled-says row term k = go (is_or_placeholder row.written) k
       where
         go : (b : Bool) → (elim b [ true ↦ is_filled_there (plan_of rows) row term | false ↦ false ]) ≡ true → (b ≡ true) ×
             (is_filled_there (plan_of rows) row term ≡ true)
@@ -447,7 +448,7 @@ pub record IsHalf (rows : List Row) (others : List Term) (row : Row) : Type 0 wh
   pub term : Term
   pub there : IsTotalThere rows others row term
   pub amount : is_amount row ≡ true
-  pub unfilled : list_any (λ t. has_term t row) (flat_map beside_filler rows) ≡ false
+  pub unfilled : list_any (λ t. has_term t row) (flat_map beside_placeholder rows) ≡ false
 
 -- They are the rows of both.
 pub record IsPair (rows : List Row) (main twin : Row) : Type 0 where
@@ -465,7 +466,7 @@ total-rule-is written.IfIban h = absurd (false≢true h)
 total-rule-is written.IfNotIban h = absurd (false≢true h)
 total-rule-is written.IfScheme h = absurd (false≢true h)
 total-rule-is written.IfNoScheme h = absurd (false≢true h)
-total-rule-is (written.OrFiller filler) h = absurd (false≢true h)
+total-rule-is (written.OrPlaceholder placeholder) h = absurd (false≢true h)
 total-rule-is written.VatTotal h = refl
 total-rule-is written.AccountingVatTotal h = absurd (false≢true h)
 
@@ -476,7 +477,7 @@ accounting-rule-is written.IfIban h = absurd (false≢true h)
 accounting-rule-is written.IfNotIban h = absurd (false≢true h)
 accounting-rule-is written.IfScheme h = absurd (false≢true h)
 accounting-rule-is written.IfNoScheme h = absurd (false≢true h)
-accounting-rule-is (written.OrFiller filler) h = absurd (false≢true h)
+accounting-rule-is (written.OrPlaceholder placeholder) h = absurd (false≢true h)
 accounting-rule-is written.VatTotal h = absurd (false≢true h)
 accounting-rule-is written.AccountingVatTotal h = refl
 
@@ -512,19 +513,19 @@ half-by-test rows others j row long e h = go row.content h
   where
     go : (content : Content) → (elim content [
       | (contents.Term term) ↦ is_total_there (plan_of rows) others row term &&
-          (is_amount row && not (list_any (λ t. has_term t row) (flat_map beside_filler rows)))
+          (is_amount row && not (list_any (λ t. has_term t row) (flat_map beside_placeholder rows)))
       | (contents.Constant text) ↦ false
     ]) ≡ true
         → IsHalf rows others row
     go (contents.Term term) k =
         let a = both-true (is_total_there (plan_of rows) others row term) _ k in
-        let b = both-true (is_amount row) (not (list_any (λ t. has_term t row) (flat_map beside_filler rows))) a.1 in
+        let b = both-true (is_amount row) (not (list_any (λ t. has_term t row) (flat_map beside_placeholder rows))) a.1 in
         record {
           term = term;
           there = there-by-test rows others j row term long e a.0;
           amount = b.0;
           unfilled =
-              not-so (list_any (λ t. has_term t row) (flat_map beside_filler rows)) b.1;
+              not-so (list_any (λ t. has_term t row) (flat_map beside_placeholder rows)) b.1;
         }
     go (contents.Constant text) k = absurd (false≢true k)
 

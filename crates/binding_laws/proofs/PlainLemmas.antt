@@ -11,7 +11,7 @@ use Rattle.std.proofs.lemmas.List.Quantifiers.{position-Some}
 use Rattle.inv_base.specs.Tree.{document_nodes}
 use Rattle.term_table.specs.declared.groups.Group.{Group}
 use Rattle.term_table.specs.declared.groups.Group.TheVariants as groups
-use Rattle.term_table.specs.declared.terms.Letter.TheVariants as letters
+use Rattle.term_table.specs.declared.terms.DataType.TheVariants as data_types
 use Rattle.term_table.specs.declared.terms.Mark.TheVariants as marks
 use Rattle.term_table.specs.declared.terms.Term.{Term}
 use Rattle.term_table.specs.declared.terms.TermRow.{TermRow}
@@ -38,7 +38,7 @@ use Rattle.bind_rows.specs.declared.rows.Form.{Form}
 use Rattle.bind_rows.specs.declared.rows.Written.TheVariants as written
 use Rattle.bind_rows.specs.Added.{is_typed}
 use Rattle.bind_table.specs.Lines.{Plan, nothing, a_line, plan_of}
-use Rattle.bind_meaning.specs.Values.{form_for, said}
+use Rattle.bind_meaning.specs.Values.{form_for, parsed}
 use Rattle.bind_meaning.specs.Elements.{string_at, is_full}
 use Rattle.bind_meaning.specs.Picks.{Pick, nodes_picked}
 use Rattle.bind_meaning.specs.Writing.{slot_for, context_for, formed, if_due, value_for, row_text, writes_entry}
@@ -252,7 +252,7 @@ groups-are e term outer inner same p there =
     let o : Option Group = slot_group e.context.outer in
     let i : Option Group = slot_group e.context.inner in
     let n = some-number (row_of e.term e.context) e.context p in
-    let d : TermRow = record { term = e.term; group = groups.Root; letter = letters.T; mark = marks.One; list = None } in
+    let d : TermRow = record { term = e.term; group = groups.Root; data_type = data_types.T; mark = marks.One; list = None } in
     let at = position-Some (is_row_in e.term o i) listing_rows n.0 d n.1 in
     let r : TermRow = get_or listing_rows n.0 d in
     let is = both (same_term r.term e.term) (stands_in r.group o i) at.1 in
@@ -309,7 +309,7 @@ groups-differ e p g h a b =
     let o : Option Group = slot_group e.context.outer in
     let i : Option Group = slot_group e.context.inner in
     let n = some-number (row_of e.term e.context) e.context p in
-    let d : TermRow = record { term = e.term; group = groups.Root; letter = letters.T; mark = marks.One; list = None } in
+    let d : TermRow = record { term = e.term; group = groups.Root; data_type = data_types.T; mark = marks.One; list = None } in
     let at = position-Some (is_row_in e.term o i) listing_rows n.0 d n.1 in
     let r : TermRow = get_or listing_rows n.0 d in
     let is = both (same_term r.term e.term) (stands_in r.group o i) at.1 in
@@ -382,7 +382,7 @@ context-there e term o i same p there reach =
     let eo : Option Group = slot_group e.context.outer in
     let ei : Option Group = slot_group e.context.inner in
     let n = some-number (row_of e.term e.context) e.context p in
-    let d : TermRow = record { term = e.term; group = groups.Root; letter = letters.T; mark = marks.One; list = None } in
+    let d : TermRow = record { term = e.term; group = groups.Root; data_type = data_types.T; mark = marks.One; list = None } in
     let at = position-Some (is_row_in e.term eo ei) listing_rows n.0 d n.1 in
     let r : TermRow = get_or listing_rows n.0 d in
     let is = both (same_term r.term e.term) (stands_in r.group eo ei) at.1 in
@@ -956,25 +956,26 @@ module _ (law : Laws) (rows : List Row) (es : List Entry) (invoice : IsInvoice e
       (typed-back es (form_for row.form term) e.context e.value typed (taken-is row es term e.context e.value typed v some)) (inr typed)
       (subst (λ x. Fits x e.value) t fits)
 
-  said-again : is_whole (form_for row.form term) ≡ true → IsRead row.form term → (xs : List Entry) → ((x : Entry) → Among x xs → Among x es) →
-      All (λ (e : Entry). Fits e.term e.value) xs → map (λ s. said row.form term s)
+  parsed-again : is_whole (form_for row.form term) ≡ true → IsRead row.form term → (xs : List Entry) → ((x : Entry) → Among x xs → Among x es) →
+      All (λ (e : Entry). Fits e.term e.value) xs → map (λ s. parsed row.form term s)
       (map (λ (e : Entry). formed (form_for row.form term) es e.context e.value) (filter wanted xs))
       ≡ map (λ (e : Entry). record { term = term; value = Some e.value } ∷ []) (filter wanted xs)
-  said-again form read [] f h = refl
-  said-again form read (e ∷ xs) f h = go (wanted e) refl (said-again form read xs (λ x a. f x (inr a)) (All-tail (λ (x : Entry). Fits x.term x.value) e xs h))
+  parsed-again form read [] f h = refl
+  parsed-again form read (e ∷ xs) f h = go (wanted e) refl (parsed-again form read xs (λ x a. f x (inr a)) (All-tail (λ (x : Entry). Fits x.term x.value) e xs
+      h))
     where
       fits : Fits e.term e.value
       fits = All-head (λ (x : Entry). Fits x.term x.value) e xs h
 
       says : (same_term e.term term ≡ true) × (is_written e.context ≡ true) →
-          said row.form term (formed (form_for row.form term) es e.context e.value) ≡ record { term = term; value = Some e.value } ∷ []
-      says t = (reads-so form read e (f e (inl refl)) fits t.0 t.1).said ∙
+          parsed row.form term (formed (form_for row.form term) es e.context e.value) ≡ record { term = term; value = Some e.value } ∷ []
+      says t = (reads-so form read e (f e (inl refl)) fits t.0 t.1).parsed ∙
           ap (λ l. record { term = term; value = Some e.value } ∷ l) (whole-uncoded (form_for row.form term) es e.context form)
 
       go : (b : Bool) → wanted e ≡ b
-          → map (λ s. said row.form term s) (map (λ (x : Entry). formed (form_for row.form term) es x.context x.value) (filter wanted xs)) ≡ map
+          → map (λ s. parsed row.form term s) (map (λ (x : Entry). formed (form_for row.form term) es x.context x.value) (filter wanted xs)) ≡ map
           (λ (x : Entry). record { term = term; value = Some x.value } ∷ []) (filter wanted xs)
-          → map (λ s. said row.form term s) (map (λ (x : Entry). formed (form_for row.form term) es x.context x.value)
+          → map (λ s. parsed row.form term s) (map (λ (x : Entry). formed (form_for row.form term) es x.context x.value)
           (if b then e ∷ filter wanted xs else filter wanted xs))
           ≡ map (λ (x : Entry). record { term = term; value = Some x.value } ∷ []) (if b then e ∷ filter wanted xs else filter wanted xs)
       go true k more = (λ i. says (both (same_term e.term term) (is_written e.context) k) i ∷ more i)
@@ -982,15 +983,15 @@ module _ (law : Laws) (rows : List Row) (es : List Entry) (invoice : IsInvoice e
 
   pub says-law : stands_apart rows row.path ≡ true → is_whole (form_for row.form term) ≡ true →
       (is_extension term && not (is_typed (form_for row.form term))) ≡ false → (k : ℕ) →
-      map (λ (pick : Pick). said row.form term (string_at (document_nodes (document_of rows es)) pick.node))
+      map (λ (pick : Pick). parsed row.form term (string_at (document_nodes (document_of rows es)) pick.node))
       (nodes_picked (document_nodes (document_of rows es)) k row)
       ≡ map (λ (e : Entry). record { term = term; value = Some e.value } ∷ [])
       (filter (λ (e : Entry). same_term e.term term && is_written_by row term es e.context) es)
   says-law apart form says k =
-      sym (map-map (λ s. said row.form term s) (λ (pick : Pick). string_at (document_nodes (document_of rows es)) pick.node)
+      sym (map-map (λ s. parsed row.form term s) (λ (pick : Pick). string_at (document_nodes (document_of rows es)) pick.node)
       (nodes_picked (document_nodes (document_of rows es)) k row))
-      ∙ (ap (map (λ s. said row.form term s)) (plain-law apart form k) ∙
-      said-again form (read-by (is_extension term) (is_typed (form_for row.form term)) refl refl says) es (λ x a. a) invoice.fit)
+      ∙ (ap (map (λ s. parsed row.form term s)) (plain-law apart form k) ∙
+      parsed-again form (read-by (is_extension term) (is_typed (form_for row.form term)) refl refl says) es (λ x a. a) invoice.fit)
     where
       read-by : (a b : Bool) → is_extension term ≡ a → is_typed (form_for row.form term) ≡ b → (a && not b) ≡ false → IsRead row.form term
       read-by false b own typed h = inl own

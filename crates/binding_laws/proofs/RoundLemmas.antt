@@ -12,7 +12,7 @@ use Rattle.std.proofs.lemmas.List.Elements.{All-head, All-tail}
 use Rattle.inv_base.specs.Tree.{Node, document_nodes}
 use Rattle.term_table.specs.declared.groups.Group.{Group}
 use Rattle.term_table.specs.declared.terms.Term.{Term}
-use Rattle.term_table.specs.declared.terms.Letter.TheVariants as letters
+use Rattle.term_table.specs.declared.terms.DataType.TheVariants as data_types
 use Rattle.term_table.specs.declared.contexts.Context.{Context}
 use Rattle.term_table.specs.Contexts.{root_context}
 use Rattle.term_table.specs.Groups.{same_group}
@@ -20,7 +20,7 @@ use Rattle.term_table.specs.SemanticModel.{same_term, terms, extension_rows, lis
 use Rattle.term_table.specs.Groups.{parent_of, occurrence_of}
 use Rattle.term_table.proofs.SeatLemmas.{same_term_is}
 use Rattle.term_table.proofs.GroupLemmas.{same_group_itself}
-use Rattle.term_table.specs.Rows.{letter_of}
+use Rattle.term_table.specs.Rows.{data_type_of}
 use Rattle.inv_terms.specs.declared.values.Value.{Value}
 use Rattle.inv_terms.specs.declared.entries.Entry.{Entry}
 use Rattle.inv_terms.specs.Values.{trimmed, spelled}
@@ -31,7 +31,7 @@ use Rattle.bind_rows.specs.declared.rows.Content.{Content}
 use Rattle.bind_rows.specs.declared.rows.Content.TheVariants as contents
 use Rattle.bind_rows.specs.declared.rows.Step.{Step}
 use Rattle.bind_rows.specs.declared.rows.Row.{Row}
-use Rattle.bind_rows.specs.declared.rows.Filler.{Filler}
+use Rattle.bind_rows.specs.declared.rows.Placeholder.{Placeholder}
 use Rattle.bind_rows.specs.declared.rows.Form.{Form}
 use Rattle.bind_rows.specs.declared.rows.Form.TheVariants as forms
 use Rattle.bind_rows.specs.declared.rows.Written.{Written}
@@ -42,16 +42,17 @@ use Rattle.bind_table.specs.Lines.{plan_of}
 use Rattle.bind_table.specs.WellFormed.{depth_of, is_carried, first_fault}
 use Rattle.bind_table.specs.Fronts.{HasGroup}
 use Rattle.bind_table.proofs.FrontLemmas.{one-element, modelled-row}
-use Rattle.bind_meaning.specs.Values.{Said, said, subject_code, note, suits, form_for}
+use Rattle.bind_meaning.specs.Values.{ParsedValue, parsed, subject_code, note, suits, form_for}
 use Rattle.bind_meaning.specs.Elements.{has_element_inside, number, string_at}
-use Rattle.bind_meaning.specs.Picks.{Pick, has_term, term_in, has_any_term, Numbered, numbered, rows_where, all_picked, around_last, stands_beside, is_filler}
-use Rattle.bind_meaning.specs.Picks.{without_fillers, last_of, leaves_of, nodes_picked}
+use Rattle.bind_meaning.specs.Picks.{Pick, has_term, term_in, has_any_term, Numbered, numbered, rows_where, all_picked, around_last, stands_beside}
+use Rattle.bind_meaning.specs.Picks.{is_placeholder}
+use Rattle.bind_meaning.specs.Picks.{without_placeholders, last_of, leaves_of, nodes_picked}
 use Rattle.bind_meaning.specs.Currencies.{Currencies, currencies, invoice_currency, accounting_currency, first_string, amount_currency, is_in_its_currency}
 use Rattle.bind_meaning.specs.Currencies.{in_their_currencies}
 use Rattle.bind_meaning.specs.Seats.{Placed, placed, context_of}
 use Rattle.code_lists.specs.CodeFiles.{Lists}
 use Rattle.bind_meaning.specs.declared.fault.BindFault.{BindFault}
-use Rattle.bind_meaning.specs.Judging.{Told, is_of_seat, said_by, told_by, Found, least}
+use Rattle.bind_meaning.specs.Judging.{Told, is_of_seat, parsed_by, told_by, Found, least}
 use Rattle.bind_meaning.specs.Terms.{term_picks, place_all, told, entries, Read, passed_over, all_faults, terms_of}
 use Rattle.bind_meaning.specs.Writing.{context_for, formed, if_so, if_due, row_text, term_text, filled as filled_text}
 use Rattle.bind_meaning.specs.Trees.{document_of, constant_or_text, is_vat_total}
@@ -62,9 +63,10 @@ use Rattle.binding_laws.specs.Plain.{is_spread_beside, is_plain_in, is_plain, is
 use Rattle.binding_laws.specs.Plain.{is_plain_attribute_with, is_plain_with, is_spread_with, IsPlainThere, IsPlainAttributeThere}
 use Rattle.binding_laws.specs.Known.{known_of, is_as_known}
 use Rattle.binding_laws.specs.Covered.{is_coded, is_noted_in, is_noted_by, writes_code, code_terms_of, code_terms, is_subject, is_coded_note, is_misread_note}
-use Rattle.binding_laws.specs.Covered.{is_coded_row, is_bad_note, is_known_beside, is_known_by, writes_known_beside, writes_known, currency_in, is_or_filler}
-use Rattle.binding_laws.specs.Covered.{is_filled_in, is_filled_by, is_joined, unjoined_terms, is_like_filler, is_unmistaken, is_covered, writes_beside}
-use Rattle.binding_laws.specs.Covered.{writes_plainly, is_written_plainly, rows_there, terms_in, beside_filler, is_other, left_out, is_left_out, is_bare}
+use Rattle.binding_laws.specs.Covered.{is_coded_row, is_bad_note, is_known_beside, is_known_by, writes_known_beside, writes_known, currency_in}
+use Rattle.binding_laws.specs.Covered.{is_or_placeholder}
+use Rattle.binding_laws.specs.Covered.{is_filled_in, is_filled_by, is_joined, unjoined_terms, is_like_placeholder, is_unmistaken, is_covered, writes_beside}
+use Rattle.binding_laws.specs.Covered.{writes_plainly, is_written_plainly, rows_there, terms_in, beside_placeholder, is_other, left_out, is_left_out, is_bare}
 use Rattle.binding_laws.specs.Covered.{is_no_currency, is_settled, holds_plainly, is_read_back, reads_back, is_accounting_rule, accounting_terms}
 use Rattle.binding_laws.specs.Covered.{unpaired_terms, is_total_in, is_total_by, is_pair_in, is_pair_by, is_shadowed, currency_text, is_other_text}
 use Rattle.binding_laws.specs.Covered.{has_currencies}
@@ -72,7 +74,7 @@ use Rattle.binding_laws.specs.Twins.{same_way}
 use Rattle.binding_laws.proofs.TreeLemmas.{Each, same-is}
 use Rattle.binding_laws.proofs.ListLemmas.{both-true, not-true, or-either}
 use Rattle.binding_laws.proofs.ReachLemmas.{Among, among-front, among-back, among-flat_map, among-filter, among-map, any-is, all-is, none-is, any-among}
-use Rattle.binding_laws.proofs.FormLemmas.{code-as-it-is, trimmed-as-it-is, Laws, IsRead, code_said, IsNote, note-term, IsBack, of-code-said}
+use Rattle.binding_laws.proofs.FormLemmas.{code-as-it-is, trimmed-as-it-is, Laws, IsRead, code_said, IsNote, note-term, IsBack, of-code-parsed}
 use Rattle.binding_laws.proofs.TakenLemmas.{added-typed, none-for-none}
 use Rattle.binding_laws.proofs.GoneLemmas.{gone-value}
 use Rattle.binding_laws.proofs.RowLemmas.{Place, places_at, IsAt, ArePlaced, placed-known, placed-without, placed-at}
@@ -94,9 +96,11 @@ use Rattle.binding_laws.proofs.TwinLemmas.{same-ways}
 use Rattle.binding_laws.proofs.SilentLemmas.{IsQuiet, quiet-picks-nothing}
 use Rattle.binding_laws.proofs.CoverLemmas.{plain-writes, spread-writes, attribute-writes, spread-attribute-writes, Absent, no-value, IsKept, IsTotal, HasCodes}
 use Rattle.binding_laws.proofs.CoverLemmas.{no-strange, only-own, IsSpreadHere, Covers, plain-covers, spread-known, spread-here, root-entry, root-value}
-use Rattle.binding_laws.proofs.CoverLemmas.{spread-covers, attribute-covers, spread-attribute-covers, IsTold, IsNotTold, said-as, of-picked, to-picked, row-at}
-use Rattle.binding_laws.proofs.FillerLemmas.{IsToldFiller, told-by-test, fillers-not-told}
-use Rattle.binding_laws.proofs.BothLemmas.{money-letter, accounting-letter, money-form, accounting-form, total-currencies, own-total, no-filled, pair-of-term}
+use Rattle.binding_laws.proofs.CoverLemmas.{spread-covers, attribute-covers, spread-attribute-covers, IsTold, IsNotTold, parsed-as, of-picked, to-picked}
+use Rattle.binding_laws.proofs.CoverLemmas.{row-at}
+use Rattle.binding_laws.proofs.PlaceholderLemmas.{IsToldPlaceholder, told-by-test, placeholders-not-told}
+use Rattle.binding_laws.proofs.BothLemmas.{money-data_type, accounting-data_type, money-form, accounting-form, total-currencies, own-total, no-filled}
+use Rattle.binding_laws.proofs.BothLemmas.{pair-of-term}
 
 -- ---- rows of a table
 
@@ -157,19 +161,19 @@ upto-front g (s ∷ path) = go (upto-front g path) (same_or_none s.group (Some g
     go e true = refl
     go e false = ap (λ l. s ∷ l) e ∙ ap (λ n. take n (s ∷ path)) (let z : suc (depth_of g path + 1) ≡ 1 + depth_of g path + 1 = omega arith in z)
 
--- ---- fillers and totals
+-- ---- placeholders and totals
 
-not-filler : (rule : Written) (X : Filler → Bool) → ((filler : Filler) → rule ≡ written.OrFiller filler → X filler ≡ false) →
-    (elim rule [ (written.OrFiller filler) ↦ X filler | _ ↦ false ]) ≡ false
-not-filler written.Always X h = refl
-not-filler written.Never X h = refl
-not-filler written.IfIban X h = refl
-not-filler written.IfNotIban X h = refl
-not-filler written.IfScheme X h = refl
-not-filler written.IfNoScheme X h = refl
-not-filler (written.OrFiller filler) X h = h filler refl
-not-filler written.VatTotal X h = refl
-not-filler written.AccountingVatTotal X h = refl
+not-placeholder : (rule : Written) (X : Placeholder → Bool) → ((placeholder : Placeholder) → rule ≡ written.OrPlaceholder placeholder → X placeholder ≡ false) →
+    (elim rule [ (written.OrPlaceholder placeholder) ↦ X placeholder | _ ↦ false ]) ≡ false
+not-placeholder written.Always X h = refl
+not-placeholder written.Never X h = refl
+not-placeholder written.IfIban X h = refl
+not-placeholder written.IfNotIban X h = refl
+not-placeholder written.IfScheme X h = refl
+not-placeholder written.IfNoScheme X h = refl
+not-placeholder (written.OrPlaceholder placeholder) X h = h placeholder refl
+not-placeholder written.VatTotal X h = refl
+not-placeholder written.AccountingVatTotal X h = refl
 
 in-currency : (rule : Written) (x y : Bool) → is_vat_total rule ≡ false →
     (elim rule [ written.VatTotal ↦ x | written.AccountingVatTotal ↦ y | _ ↦ true ]) ≡ true
@@ -179,7 +183,7 @@ in-currency written.IfIban x y h = refl
 in-currency written.IfNotIban x y h = refl
 in-currency written.IfScheme x y h = refl
 in-currency written.IfNoScheme x y h = refl
-in-currency (written.OrFiller filler) x y h = refl
+in-currency (written.OrPlaceholder placeholder) x y h = refl
 in-currency written.VatTotal x y h = absurd (false≢true (sym h))
 in-currency written.AccountingVatTotal x y h = absurd (false≢true (sym h))
 
@@ -205,10 +209,10 @@ module _ (law : Laws) (rows : List Row) (es : List Entry) (invoice : IsInvoice e
   others-held : (has_currencies rows es && list_all (is_unmistaken (plan_of rows) rows es) es) ≡ true
   others-held = (both-true (list_all (λ (x : Entry). not (is_left_out rows x.term) && (reads_back rows x && is_written_plainly rows es x)) es) _ plainly).1
 
-  unmistaken : (e : Entry) → Among e es → (not (list_any (is_like_filler (plan_of rows) rows es e) rows) ≡ true) ×
+  unmistaken : (e : Entry) → Among e es → (not (list_any (is_like_placeholder (plan_of rows) rows es e) rows) ≡ true) ×
       ((is_as_known (known_of rows) es e && not (is_bad_note rows es e)) ≡ true)
   unmistaken e a =
-      both-true (not (list_any (is_like_filler (plan_of rows) rows es e) rows)) (is_as_known (known_of rows) es e && not (is_bad_note rows es e))
+      both-true (not (list_any (is_like_placeholder (plan_of rows) rows es e) rows)) (is_as_known (known_of rows) es e && not (is_bad_note rows es e))
       (all-is (is_unmistaken (plan_of rows) rows es) es e (both-true (has_currencies rows es) _ others-held).1 a)
 
   -- what is asked of the invoice is known of it
@@ -291,21 +295,23 @@ module _ (law : Laws) (rows : List Row) (es : List Entry) (invoice : IsInvoice e
       same-term-itself : (u : Term) → same_term u u ≡ true
       same-term-itself u = grind (arith, nat_tests)
 
-  filler-term : (row : Row) → Among row rows → (filler : Filler) → row.written ≡ written.OrFiller filler → Among filler.beside (flat_map beside_filler rows)
-  filler-term row a filler e = among-flat_map beside_filler row filler.beside rows a
-      (subst (λ rule. Among filler.beside (elim rule [ (written.OrFiller f) ↦ f.beside ∷ [] | _ ↦ [] ])) (sym e) (inl refl))
+  placeholder-term : (row : Row) → Among row rows → (placeholder : Placeholder) → row.written ≡ written.OrPlaceholder placeholder
+      → Among placeholder.beside (flat_map beside_placeholder rows)
+  placeholder-term row a placeholder e = among-flat_map beside_placeholder row placeholder.beside rows a
+      (subst (λ rule. Among placeholder.beside (elim rule [ (written.OrPlaceholder f) ↦ f.beside ∷ [] | _ ↦ [] ])) (sym e) (inl refl))
 
-  -- the term beside a filler is left out, where that isn't told from values
-  beside-left : (row : Row) → Among row rows → (filler : Filler) → row.written ≡ written.OrFiller filler → is_joined (plan_of rows) rows row ≡ false →
-      Absent es filler.beside
-  beside-left row a filler e apart =
-      left-unsaid filler.beside
-      (among-back filler.beside (flat_map (λ (x : Row). flat_map terms_in (rows_there (plan_of rows) x)) (filter (is_other (plan_of rows) rows) rows))
+  -- the term beside a placeholder is left out, where that isn't told from values
+  beside-left : (row : Row) → Among row rows → (placeholder : Placeholder) → row.written ≡ written.OrPlaceholder placeholder
+      → is_joined (plan_of rows) rows row ≡ false →
+      Absent es placeholder.beside
+  beside-left row a placeholder e apart =
+      left-unsaid placeholder.beside
+      (among-back placeholder.beside (flat_map (λ (x : Row). flat_map terms_in (rows_there (plan_of rows) x)) (filter (is_other (plan_of rows) rows) rows))
       (unjoined_terms (plan_of rows) rows ++ unpaired_terms (plan_of rows) rows)
-      (among-front filler.beside (unjoined_terms (plan_of rows) rows) (unpaired_terms (plan_of rows) rows)
-      (among-flat_map (λ (x : Row). elim (is_joined (plan_of rows) rows x) [ true ↦ [] | false ↦ beside_filler x ]) row filler.beside rows a
-      (subst (λ b. Among filler.beside (elim b [ true ↦ [] | false ↦ beside_filler row ])) (sym apart)
-      (subst (λ rule. Among filler.beside (elim rule [ (written.OrFiller f) ↦ f.beside ∷ [] | _ ↦ [] ])) (sym e) (inl refl))))))
+      (among-front placeholder.beside (unjoined_terms (plan_of rows) rows) (unpaired_terms (plan_of rows) rows)
+      (among-flat_map (λ (x : Row). elim (is_joined (plan_of rows) rows x) [ true ↦ [] | false ↦ beside_placeholder x ]) row placeholder.beside rows a
+      (subst (λ b. Among placeholder.beside (elim b [ true ↦ [] | false ↦ beside_placeholder row ])) (sym apart)
+      (subst (λ rule. Among placeholder.beside (elim rule [ (written.OrPlaceholder f) ↦ f.beside ∷ [] | _ ↦ [] ])) (sym e) (inl refl))))))
 
   -- no term of a VAT total in accounting currency whose row isn't covered stands in the invoice
   unheld : holds_none (unpaired_terms (plan_of rows) rows) es ≡ true
@@ -340,7 +346,7 @@ module _ (law : Laws) (rows : List Row) (es : List Entry) (invoice : IsInvoice e
     content = p.there.content;
     form = p.there.form;
     total = inr (own-total law rows es invoice row (unpaired_terms (plan_of rows) rows) term p.rule p.there);
-    unfilled = λ filler e. inl (no-filled law rows es invoice row (ap is_or_filler p.rule) filler e);
+    unfilled = λ placeholder e. inl (no-filled law rows es invoice row (ap is_or_placeholder p.rule) placeholder e);
     outer = p.there.outer;
     inner = p.there.inner;
     context = p.there.context;
@@ -354,8 +360,9 @@ module _ (law : Laws) (rows : List Row) (es : List Entry) (invoice : IsInvoice e
       go (value_in es invoice_currency root_context) refl (value_in es accounting_currency root_context) refl
       (sym (ap (λ b. b || is_other_text (currency_in es invoice_currency) (currency_in es accounting_currency)) some) ∙ h)
     where
-      as-it-is : (money : Term) → letter_of money ≡ Some letters.C → (v : Value) → value_in es money root_context ≡ Some v → trimmed (spelled v) ≡ spelled v
-      as-it-is money letter v e = code-as-it-is law money v letter
+      as-it-is : (money : Term) → data_type_of money ≡ Some data_types.C → (v : Value) → value_in es money root_context ≡ Some v → trimmed (spelled v)
+          ≡ spelled v
+      as-it-is money data_type v e = code-as-it-is law money v data_type
           (fits-among law es invoice money (record { context = root_context; term = money; value = v }) es invoice.fit
           (at-value law es invoice money root_context v e))
 
@@ -364,36 +371,38 @@ module _ (law : Laws) (rows : List Row) (es : List Entry) (invoice : IsInvoice e
           → is_other_text (option_map (λ (value : Value). trimmed (spelled value)) a) (option_map (λ (value : Value). trimmed (spelled value)) b) ≡ true
       go None e b f k = absurd (false≢true k)
       go (Some v) e None f k = absurd (false≢true k)
-      go (Some v) e (Some w) f k = (λ i. not (bytes_eq (as-it-is invoice_currency money-letter v e i) (as-it-is accounting_currency accounting-letter w f i))) ∙
+      go (Some v) e (Some w) f k = (λ i. not (bytes_eq (as-it-is invoice_currency money-data_type v e i) (as-it-is accounting_currency accounting-data_type w
+          f i))) ∙
           k
 
-  -- whether the filler of a row stands in place of a value
+  -- whether the placeholder of a row stands in place of a value
   abbrev IsUnfilled : Row → Term → Type 0
-  IsUnfilled row term = (filler : Filler) → row.written ≡ written.OrFiller filler → Absent es filler.beside ⊎ IsKept law rows es invoice row term filler
+  IsUnfilled row term = (placeholder : Placeholder) → row.written ≡ written.OrPlaceholder placeholder
+      → Absent es placeholder.beside ⊎ IsKept law rows es invoice row term placeholder
 
-  -- where the value stands, it isn't the filler
-  not-the-filler : (row : Row) → Among row rows → (term : Term) (filler : Filler) → row.written ≡ written.OrFiller filler →
-      is_joined (plan_of rows) rows row ≡ true → IsToldFiller rows row term filler → row.content ≡ contents.Term term
-      → plain.stands_there term None None ≡ true → (x : Entry) → Among x es → x.term ≡ filler.beside → (e : Entry) → Among e es → e.term ≡ term →
-      bytes_eq (trimmed (formed (form_for row.form term) es e.context e.value)) filler.text ≡ false
-  not-the-filler row a term filler rule joined t content alone x x_known x_is e e_known e_is =
-      ap (λ form. bytes_eq (trimmed (formed form es e.context e.value)) filler.text) t.model
-      ∙ (ap (λ s. bytes_eq s filler.text) (trimmed-as-it-is law term e.value t.letter
+  -- where the value stands, it isn't the placeholder
+  not-the-placeholder : (row : Row) → Among row rows → (term : Term) (placeholder : Placeholder) → row.written ≡ written.OrPlaceholder placeholder →
+      is_joined (plan_of rows) rows row ≡ true → IsToldPlaceholder rows row term placeholder → row.content ≡ contents.Term term
+      → plain.stands_there term None None ≡ true → (x : Entry) → Among x es → x.term ≡ placeholder.beside → (e : Entry) → Among e es → e.term ≡ term →
+      bytes_eq (trimmed (formed (form_for row.form term) es e.context e.value)) placeholder.text ≡ false
+  not-the-placeholder row a term placeholder rule joined t content alone x x_known x_is e e_known e_is =
+      ap (λ form. bytes_eq (trimmed (formed form es e.context e.value)) placeholder.text) t.model
+      ∙ (ap (λ s. bytes_eq s placeholder.text) (trimmed-as-it-is law term e.value t.data_type
       (subst (λ u. Fits u e.value) e_is (fits-among law es invoice e.term e es invoice.fit e_known))) ∙
-      turned (bytes_eq filler.text (spelled e.value)) refl)
+      turned (bytes_eq placeholder.text (spelled e.value)) refl)
     where
-      none : is_like_filler (plan_of rows) rows es e row ≡ false
-      none = none-is (is_like_filler (plan_of rows) rows es e) rows row
-          (not-true (list_any (is_like_filler (plan_of rows) rows es e) rows) (unmistaken e e_known).0) a
+      none : is_like_placeholder (plan_of rows) rows es e row ≡ false
+      none = none-is (is_like_placeholder (plan_of rows) rows es e) rows row
+          (not-true (list_any (is_like_placeholder (plan_of rows) rows es e) rows) (unmistaken e e_known).0) a
 
       root : e.context ≡ root_context
       root = root-entry law rows es invoice term alone e e_known e_is
 
       x_root : x.context ≡ root_context
-      x_root = root-entry law rows es invoice filler.beside t.spread.context x x_known x_is
+      x_root = root-entry law rows es invoice placeholder.beside t.spread.context x x_known x_is
 
-      stands : is_some (value_in es filler.beside e.context) ≡ true
-      stands = ap (λ c. is_some (value_in es filler.beside c)) root ∙ ap is_some (root-value law rows es invoice x x_known x_root filler.beside x_is)
+      stands : is_some (value_in es placeholder.beside e.context) ≡ true
+      stands = ap (λ c. is_some (value_in es placeholder.beside c)) root ∙ ap is_some (root-value law rows es invoice x x_known x_root placeholder.beside x_is)
 
       has : has_term e.term row ≡ true
       has = ap (λ y. elim (term_in y) [ None ↦ false | Some u ↦ same_term u e.term ]) content ∙
@@ -402,10 +411,10 @@ module _ (law : Laws) (rows : List Row) (es : List Entry) (invoice : IsInvoice e
           same-term-itself : (u : Term) → same_term u u ≡ true
           same-term-itself u = grind (arith, nat_tests)
 
-      says : (b : Bool) → bytes_eq filler.text (spelled e.value) ≡ b → is_like_filler (plan_of rows) rows es e row ≡ b
+      says : (b : Bool) → bytes_eq placeholder.text (spelled e.value) ≡ b → is_like_placeholder (plan_of rows) rows es e row ≡ b
       says b same =
           ap (λ r. elim r [
-            | (written.OrFiller f) ↦ is_joined (plan_of rows) rows row &&
+            | (written.OrPlaceholder f) ↦ is_joined (plan_of rows) rows row &&
                 (has_term e.term row && (bytes_eq f.text (spelled e.value) && is_some (value_in es f.beside e.context)))
             | _ ↦ false
           ]) rule
@@ -415,31 +424,31 @@ module _ (law : Laws) (rows : List Row) (es : List Entry) (invoice : IsInvoice e
           and-true true = refl
           and-true false = refl
 
-      turned : (b : Bool) → bytes_eq filler.text (spelled e.value) ≡ b → bytes_eq (spelled e.value) filler.text ≡ false
+      turned : (b : Bool) → bytes_eq placeholder.text (spelled e.value) ≡ b → bytes_eq (spelled e.value) placeholder.text ≡ false
       turned true same = absurd (false≢true (sym none ∙ says true same))
-      turned false same = not-so (bytes_eq (spelled e.value) filler.text) refl
+      turned false same = not-so (bytes_eq (spelled e.value) placeholder.text) refl
         where
-          not-so : (b : Bool) → bytes_eq (spelled e.value) filler.text ≡ b → b ≡ false
+          not-so : (b : Bool) → bytes_eq (spelled e.value) placeholder.text ≡ b → b ≡ false
           not-so false k = refl
           not-so true k = absurd (false≢true (sym same ∙
-              (bytes_eq-Decides filler.text (spelled e.value)).1 (sym ((bytes_eq-Decides (spelled e.value) filler.text).0 k))))
+              (bytes_eq-Decides placeholder.text (spelled e.value)).1 (sym ((bytes_eq-Decides (spelled e.value) placeholder.text).0 k))))
 
-  -- where the value stands, or no term beside its filler
+  -- where the value stands, or no term beside its placeholder
   kept-or-absent : (row : Row) → Among row rows → (term : Term) → IsFilled rows row term → is_some (value_in es term root_context) ≡ true → IsUnfilled row term
-  kept-or-absent row a term p stands filler rule = go (list_any (λ (x : Entry). same_term x.term filler.beside) es) refl
+  kept-or-absent row a term p stands placeholder rule = go (list_any (λ (x : Entry). same_term x.term placeholder.beside) es) refl
       (is_joined (plan_of rows) rows row) refl
     where
-      go : (b : Bool) → list_any (λ (x : Entry). same_term x.term filler.beside) es ≡ b → (d : Bool) → is_joined (plan_of rows) rows row ≡ d →
-          Absent es filler.beside ⊎ IsKept law rows es invoice row term filler
-      go false none d f = inl (λ e known. none-is (λ (x : Entry). same_term x.term filler.beside) es e none known)
-      go true some false f = inl (beside-left row a filler rule f)
+      go : (b : Bool) → list_any (λ (x : Entry). same_term x.term placeholder.beside) es ≡ b → (d : Bool) → is_joined (plan_of rows) rows row ≡ d →
+          Absent es placeholder.beside ⊎ IsKept law rows es invoice row term placeholder
+      go false none d f = inl (λ e known. none-is (λ (x : Entry). same_term x.term placeholder.beside) es e none known)
+      go true some false f = inl (beside-left row a placeholder rule f)
       go true some true f =
-          let w = any-is (λ (x : Entry). same_term x.term filler.beside) es some in
-          let t = told-by-test rows row term filler long_paths p.content rule f in
+          let w = any-is (λ (x : Entry). same_term x.term placeholder.beside) es some in
+          let t = told-by-test rows row term placeholder long_paths p.content rule f in
           inr (record {
             stands = stands;
-            other = not-the-filler row a term filler rule f t p.content p.context w.0 w.1.0
-                (same_term_is w.0.term filler.beside w.1.1);
+            other = not-the-placeholder row a term placeholder rule f t p.content p.context w.0 w.1.0
+                (same_term_is w.0.term placeholder.beside w.1.1);
           })
 
   filled-here : (row : Row) (term : Term) → IsFilled rows row term → IsUnfilled row term → IsSpreadHere law rows es invoice row term
@@ -452,21 +461,21 @@ module _ (law : Laws) (rows : List Row) (es : List Entry) (invoice : IsInvoice e
     leaf = p.leaf;
     content = p.content;
     form = p.form;
-    total = inl (not-total row.written p.filler);
+    total = inl (not-total row.written p.placeholder);
     unfilled = unfilled;
     outer = p.outer;
     inner = p.inner;
     context = p.context;
   }
     where
-      not-total : (rule : Written) → is_or_filler rule ≡ true → is_vat_total rule ≡ false
+      not-total : (rule : Written) → is_or_placeholder rule ≡ true → is_vat_total rule ≡ false
       not-total written.Always h = refl
       not-total written.Never h = refl
       not-total written.IfIban h = refl
       not-total written.IfNotIban h = refl
       not-total written.IfScheme h = refl
       not-total written.IfNoScheme h = refl
-      not-total (written.OrFiller filler) h = refl
+      not-total (written.OrPlaceholder placeholder) h = refl
       not-total written.VatTotal h = absurd (false≢true h)
       not-total written.AccountingVatTotal h = absurd (false≢true h)
 
@@ -482,45 +491,48 @@ module _ (law : Laws) (rows : List Row) (es : List Entry) (invoice : IsInvoice e
   abbrev pub NoneTold : Row → Type 0
   NoneTold row = (k : ℕ) (pick : Pick) → Among pick (nodes_picked (document_nodes (document_of rows es)) k row) → IsNotTold law rows es invoice pick
 
-  -- a row that has a filler: what it picks is of its term, or the filler
+  -- a row that has a placeholder: what it picks is of its term, or the placeholder
   filled-row : (row : Row) → Among row rows → (term : Term) → IsFilled rows row term → HasCover row ⊎ NoneTold row
   filled-row row a term p = by-value (value_in es term root_context) refl
     where
       covers : IsUnfilled row term → HasCover row ⊎ NoneTold row
       covers unfilled = inl (record { term = term; cover = spread-covers law rows es invoice row term (filled-here row term p unfilled) })
 
-      filler-of : (rule : Written) → is_or_filler rule ≡ true → (filler : Filler) × (rule ≡ written.OrFiller filler)
-      filler-of written.Always h = absurd (false≢true h)
-      filler-of written.Never h = absurd (false≢true h)
-      filler-of written.IfIban h = absurd (false≢true h)
-      filler-of written.IfNotIban h = absurd (false≢true h)
-      filler-of written.IfScheme h = absurd (false≢true h)
-      filler-of written.IfNoScheme h = absurd (false≢true h)
-      filler-of (written.OrFiller filler) h = (filler, refl)
-      filler-of written.VatTotal h = absurd (false≢true h)
-      filler-of written.AccountingVatTotal h = absurd (false≢true h)
+      placeholder-of : (rule : Written) → is_or_placeholder rule ≡ true → (placeholder : Placeholder) × (rule ≡ written.OrPlaceholder placeholder)
+      placeholder-of written.Always h = absurd (false≢true h)
+      placeholder-of written.Never h = absurd (false≢true h)
+      placeholder-of written.IfIban h = absurd (false≢true h)
+      placeholder-of written.IfNotIban h = absurd (false≢true h)
+      placeholder-of written.IfScheme h = absurd (false≢true h)
+      placeholder-of written.IfNoScheme h = absurd (false≢true h)
+      placeholder-of (written.OrPlaceholder placeholder) h = (placeholder, refl)
+      placeholder-of written.VatTotal h = absurd (false≢true h)
+      placeholder-of written.AccountingVatTotal h = absurd (false≢true h)
 
-      same-filler : (f g : Filler) → row.written ≡ written.OrFiller f → row.written ≡ written.OrFiller g → f ≡ g
-      same-filler f g x y = let z : written.OrFiller f ≡ written.OrFiller g = sym x ∙ y in cc
+      same-placeholder : (f g : Placeholder) → row.written ≡ written.OrPlaceholder f → row.written ≡ written.OrPlaceholder g → f ≡ g
+      same-placeholder f g x y = let z : written.OrPlaceholder f ≡ written.OrPlaceholder g = sym x ∙ y in cc
 
-      only : (filler : Filler) → row.written ≡ written.OrFiller filler → Absent es filler.beside → IsUnfilled row term
-      only filler rule absent f e = inl (subst (λ (x : Filler). Absent es x.beside) (same-filler filler f rule e) absent)
+      only : (placeholder : Placeholder) → row.written ≡ written.OrPlaceholder placeholder → Absent es placeholder.beside → IsUnfilled row term
+      only placeholder rule absent f e = inl (subst (λ (x : Placeholder). Absent es x.beside) (same-placeholder placeholder f rule e) absent)
 
-      by-filler : value_in es term root_context ≡ None → (filler : Filler) → row.written ≡ written.OrFiller filler → (b : Bool) →
-          list_any (λ (x : Entry). same_term x.term filler.beside) es ≡ b → (d : Bool) → is_joined (plan_of rows) rows row ≡ d
+      by-placeholder : value_in es term root_context ≡ None → (placeholder : Placeholder) → row.written ≡ written.OrPlaceholder placeholder → (b : Bool) →
+          list_any (λ (x : Entry). same_term x.term placeholder.beside) es ≡ b → (d : Bool) → is_joined (plan_of rows) rows row ≡ d
           → HasCover row ⊎ NoneTold row
-      by-filler none filler rule false e d f = covers (only filler rule (λ x known. none-is (λ (y : Entry). same_term y.term filler.beside) es x e known))
-      by-filler none filler rule true e false f = covers (only filler rule (beside-left row a filler rule f))
-      by-filler none filler rule true e true f =
-          let w = any-is (λ (x : Entry). same_term x.term filler.beside) es e in
-          let t = told-by-test rows row term filler long_paths p.content rule f in
-          let is : w.0.term ≡ filler.beside = same_term_is w.0.term filler.beside w.1.1 in
-          inr (fillers-not-told law rows es invoice row term filler p rule t w.0 w.1.0 is (row-back t.other t.among filler.beside t.spread.content w.0 w.1.0 is)
+      by-placeholder none placeholder rule false e d f = covers (only placeholder rule (λ x known. none-is (λ (y : Entry). same_term y.term
+          placeholder.beside) es x e known))
+      by-placeholder none placeholder rule true e false f = covers (only placeholder rule (beside-left row a placeholder rule f))
+      by-placeholder none placeholder rule true e true f =
+          let w = any-is (λ (x : Entry). same_term x.term placeholder.beside) es e in
+          let t = told-by-test rows row term placeholder long_paths p.content rule f in
+          let is : w.0.term ≡ placeholder.beside = same_term_is w.0.term placeholder.beside w.1.1 in
+          inr (placeholders-not-told law rows es invoice row term placeholder p rule t w.0 w.1.0 is (row-back t.other t.among placeholder.beside
+              t.spread.content w.0 w.1.0 is)
           (row-numbered 1 rows t.other t.among) none)
 
       by-value : (o : Option Value) → value_in es term root_context ≡ o → HasCover row ⊎ NoneTold row
       by-value (Some v) e = covers (kept-or-absent row a term p (ap is_some e))
-      by-value None e = let w = filler-of row.written p.filler in by-filler e w.0 w.1 (list_any (λ (x : Entry). same_term x.term w.0.beside) es) refl
+      by-value None e = let w = placeholder-of row.written p.placeholder in by-placeholder e w.0 w.1 (list_any (λ (x : Entry). same_term x.term w.0.beside)
+          es) refl
           (is_joined (plan_of rows) rows row) refl
 
   pub covered-row : (row : Row) → Among row rows → is_covered rows row ≡ true → HasCover row ⊎ NoneTold row
@@ -695,7 +707,8 @@ module _ (law : Laws) (rows : List Row) (es : List Entry) (invoice : IsInvoice e
       IsQuiet es row
   quiet-row row has f c = go row.content refl has
     where
-      unfilled : (rule : Written) (term : Term) → ((t : Term) → Among t (term ∷ elim rule [ (written.OrFiller filler) ↦ filler.beside ∷ [] | _ ↦ [] ]) →
+      unfilled : (rule : Written) (term : Term) → ((t : Term) → Among t (term ∷ elim rule [ (written.OrPlaceholder placeholder) ↦ placeholder.beside ∷ [] | _
+          ↦ [] ]) →
           (e : Entry) → Among e es → same_term e.term t ≡ false)
           → (d : Context) → filled_text rule es d ≡ None
       unfilled written.Always term g d = refl
@@ -704,18 +717,20 @@ module _ (law : Laws) (rows : List Row) (es : List Entry) (invoice : IsInvoice e
       unfilled written.IfNotIban term g d = refl
       unfilled written.IfScheme term g d = refl
       unfilled written.IfNoScheme term g d = refl
-      unfilled (written.OrFiller filler) term g d = ap (λ o. if_so (is_some o) filler.text) (no-value es filler.beside (g filler.beside (inr (inl refl))) d)
+      unfilled (written.OrPlaceholder placeholder) term g d = ap (λ o. if_so (is_some o) placeholder.text) (no-value es placeholder.beside (g
+          placeholder.beside (inr (inl refl))) d)
       unfilled written.VatTotal term g d = refl
       unfilled written.AccountingVatTotal term g d = refl
 
       go : (content : Content) → row.content ≡ content → is_some (term_in content) ≡ true → constant_or_text es c row ≡ None
       go (contents.Constant text) e k = absurd (false≢true k)
       go (contents.Term term) e k =
-          let g : (t : Term) → Among t (term ∷ elim row.written [ (written.OrFiller filler) ↦ filler.beside ∷ [] | _ ↦ [] ]) → (x : Entry) → Among x es →
+          let g : (t : Term) → Among t (term ∷ elim row.written [ (written.OrPlaceholder placeholder) ↦ placeholder.beside ∷ [] | _ ↦ [] ]) → (x : Entry)
+              → Among x es →
           same_term x.term t ≡ false =
           subst (λ content. (t : Term) →
           Among t (elim content [
-            | (contents.Term u) ↦ u ∷ elim row.written [ (written.OrFiller filler) ↦ filler.beside ∷ [] | _ ↦ [] ]
+            | (contents.Term u) ↦ u ∷ elim row.written [ (written.OrPlaceholder placeholder) ↦ placeholder.beside ∷ [] | _ ↦ [] ]
             | (contents.Constant text) ↦ []
           ]) → (x : Entry) → Among x es → same_term x.term t ≡ false) e f in
           ap (λ content. elim content [ (contents.Constant text) ↦ Some text | (contents.Term t) ↦ row_text row es c ]) e
@@ -779,7 +794,7 @@ module _ (law : Laws) (rows : List Row) (es : List Entry) (invoice : IsInvoice e
       let a = both-true (is_accounting_rule row.written) _ h in
       let b = both-true (is_element row.leaf) _ a.1 in
       let d = both-true (not (has_term invoice_currency row || has_term accounting_currency row)) _ b.1 in
-      let f = both-true (not (list_any (λ term. has_term term row) (flat_map beside_filler rows))) _ d.1 in
+      let f = both-true (not (list_any (λ term. has_term term row) (flat_map beside_placeholder rows))) _ d.1 in
       let w = any-is (λ (main : Row). is_total_by (plan_of rows) rows main && same_way row.path main.path) rows f.1 in
       let v = both-true (is_total_by (plan_of rows) rows w.0) (same_way row.path w.0.path) w.1.1 in
       let at = row-at rows w.0 w.1.0 in
@@ -791,8 +806,8 @@ module _ (law : Laws) (rows : List Row) (es : List Entry) (invoice : IsInvoice e
             not-accounting es c own.0 (amount_currency all_nodes pick.node) amount));
         no_money = ap (λ (x : Row). has_term invoice_currency x || has_term accounting_currency x) (sym is) ∙
             not-true (has_term invoice_currency row || has_term accounting_currency row) d.0;
-        beside = λ term t. ap (has_term term) (sym is) ∙ none-is (λ u. has_term u row) (flat_map beside_filler rows) term
-            (not-true (list_any (λ u. has_term u row) (flat_map beside_filler rows)) f.0) t;
+        beside = λ term t. ap (has_term term) (sym is) ∙ none-is (λ u. has_term u row) (flat_map beside_placeholder rows) term
+            (not-true (list_any (λ u. has_term u row) (flat_map beside_placeholder rows)) f.0) t;
       }
     where
       leaf-of : (leaf : Leaf) → is_element leaf ≡ true → leaf ≡ leaves.Element
@@ -853,21 +868,22 @@ module _ (law : Laws) (rows : List Row) (es : List Entry) (invoice : IsInvoice e
     abbrev picks : List Pick
     picks = term_picks all_nodes c rows
 
-    -- a pick comes from a row with a term, is no filler, and is in its currency
+    -- a pick comes from a row with a term, is no placeholder, and is in its currency
     pub record IsDue (pick : Pick) : Type 0 where
       pub row : Numbered
       pub known : Among row (rows_where has_any_term rows)
       pub picked : Among pick (nodes_picked all_nodes row.place row.row)
-      pub unfilled : not (is_filler all_nodes picked_at_all pick) ≡ true
+      pub unfilled : not (is_placeholder all_nodes picked_at_all pick) ≡ true
       pub currency : is_in_its_currency all_nodes c pick ≡ true
 
     pub due-pick : (pick : Pick) → Among pick picks → IsDue pick
     due-pick pick a =
         let w = of-flat_map (λ (node : Node). filter (λ (x : Pick). x.node == node.number)
-        (in_their_currencies all_nodes c (without_fillers all_nodes picked_at_all))) pick all_nodes a in
-        let v = of-filter-any (λ (x : Pick). x.node == w.0.number) pick (in_their_currencies all_nodes c (without_fillers all_nodes picked_at_all)) w.1.1 in
-        let u = of-filter-any (is_in_its_currency all_nodes c) pick (without_fillers all_nodes picked_at_all) v.0 in
-        let t = of-filter-any (λ (x : Pick). not (is_filler all_nodes picked_at_all x)) pick picked_at_all u.0 in
+        (in_their_currencies all_nodes c (without_placeholders all_nodes picked_at_all))) pick all_nodes a in
+        let v = of-filter-any (λ (x : Pick). x.node == w.0.number) pick (in_their_currencies all_nodes c (without_placeholders all_nodes picked_at_all)) w.1.1
+            in
+        let u = of-filter-any (is_in_its_currency all_nodes c) pick (without_placeholders all_nodes picked_at_all) v.0 in
+        let t = of-filter-any (λ (x : Pick). not (is_placeholder all_nodes picked_at_all x)) pick picked_at_all u.0 in
         let r = of-flat_map (λ (x : Numbered). nodes_picked all_nodes x.place x.row) pick (rows_where has_any_term rows) t.0 in
         record { row = r.0; known = r.1.0; picked = r.1.1; unfilled = t.1; currency = u.1 }
 
@@ -875,39 +891,41 @@ module _ (law : Laws) (rows : List Row) (es : List Entry) (invoice : IsInvoice e
     pub never-told : (pick : Pick) → Among pick picks → IsNotToldHere pick → ⊥
     never-told pick a n = go n.out
       where
-        go : ((d : Currencies) → AreOwn rows es d → is_in_its_currency all_nodes d pick ≡ false) ⊎ (is_filler all_nodes picked_at_all pick ≡ true) → ⊥
+        go : ((d : Currencies) → AreOwn rows es d → is_in_its_currency all_nodes d pick ≡ false) ⊎ (is_placeholder all_nodes picked_at_all pick ≡ true) → ⊥
         go (inl out) = false≢true (sym (out c own) ∙ (due-pick pick a).currency)
-        go (inr filler) = false≢true (sym (ap not filler) ∙ (due-pick pick a).unfilled)
+        go (inr placeholder) = false≢true (sym (ap not placeholder) ∙ (due-pick pick a).unfilled)
 
     pub of-picks : (pick : Pick) → Among pick picks → FromRow pick
     of-picks pick a =
         let d = due-pick pick a in
         elim (of-row pick d.row d.known d.picked) [ inl f ↦ f | inr n ↦ absurd (never-told pick a n) ]
 
-    -- nothing is picked of a term that doesn't stand, so no filler stands beside it
-    no-pick-beside : (filler : Filler) (pick : Pick) → Absent es filler.beside → Among filler.beside (flat_map beside_filler rows)
-        → (elim (bytes_eq (trimmed (string_at all_nodes pick.node)) filler.text) [ true ↦ stands_beside picked_at_all filler pick | false ↦ false ]) ≡ false
-    no-pick-beside filler pick absent known = go (bytes_eq (trimmed (string_at all_nodes pick.node)) filler.text)
+    -- nothing is picked of a term that doesn't stand, so no placeholder stands beside it
+    no-pick-beside : (placeholder : Placeholder) (pick : Pick) → Absent es placeholder.beside → Among placeholder.beside (flat_map beside_placeholder rows)
+        → (elim (bytes_eq (trimmed (string_at all_nodes pick.node)) placeholder.text) [ true ↦ stands_beside picked_at_all placeholder pick | false ↦ false ])
+            ≡ false
+    no-pick-beside placeholder pick absent known = go (bytes_eq (trimmed (string_at all_nodes pick.node)) placeholder.text)
       where
-        none : (other : Pick) → Among other picked_at_all → has_term filler.beside other.row ≡ false
+        none : (other : Pick) → Among other picked_at_all → has_term placeholder.beside other.row ≡ false
         none other a =
             let r = of-flat_map (λ (x : Numbered). nodes_picked all_nodes x.place x.row) other (rows_where has_any_term rows) a in
             elim (of-row other r.0 r.1.0 r.1.1) [
-              | inl f ↦ ap (λ content. elim (term_in content) [ None ↦ false | Some t ↦ same_term t filler.beside ]) f.cover.content
-                  ∙ (ap (λ t. same_term t filler.beside) (sym f.told_is.term_is) ∙ absent f.told_is.e f.told_is.known)
-              | inr x ↦ x.beside filler.beside known
+              | inl f ↦ ap (λ content. elim (term_in content) [ None ↦ false | Some t ↦ same_term t placeholder.beside ]) f.cover.content
+                  ∙ (ap (λ t. same_term t placeholder.beside) (sym f.told_is.term_is) ∙ absent f.told_is.e f.told_is.known)
+              | inr x ↦ x.beside placeholder.beside known
             ]
 
-        no-other : (others : List Pick) → ((other : Pick) → Among other others → has_term filler.beside other.row ≡ false)
-            → list_any (λ (other : Pick). has_term filler.beside other.row && bytes_eq (around_last other.elements) (around_last pick.elements)) others ≡ false
+        no-other : (others : List Pick) → ((other : Pick) → Among other others → has_term placeholder.beside other.row ≡ false)
+            → list_any (λ (other : Pick). has_term placeholder.beside other.row && bytes_eq (around_last other.elements) (around_last pick.elements)) others
+                ≡ false
         no-other [] f = refl
         no-other (other ∷ others) f =
             ap (λ b. (b && bytes_eq (around_last other.elements) (around_last pick.elements)) ||
-            list_any (λ (x : Pick). has_term filler.beside x.row && bytes_eq (around_last x.elements) (around_last pick.elements)) others)
+            list_any (λ (x : Pick). has_term placeholder.beside x.row && bytes_eq (around_last x.elements) (around_last pick.elements)) others)
             (f other (inl refl))
             ∙ no-other others (λ x a. f x (inr a))
 
-        go : (b : Bool) → (elim b [ true ↦ stands_beside picked_at_all filler pick | false ↦ false ]) ≡ false
+        go : (b : Bool) → (elim b [ true ↦ stands_beside picked_at_all placeholder pick | false ↦ false ]) ≡ false
         go true = no-other picked_at_all none
         go false = refl
 
@@ -919,7 +937,7 @@ module _ (law : Laws) (rows : List Row) (es : List Entry) (invoice : IsInvoice e
       picked : IsPicked rows es invoice pick
       context : picked.entry.context ≡ e.context
       content : pick.row.content ≡ contents.Term e.term
-      says : said pick.row.form e.term (string_at all_nodes pick.node) ≡ record { term = e.term; value = Some e.value } ∷ code_said
+      says : parsed pick.row.form e.term (string_at all_nodes pick.node) ≡ record { term = e.term; value = Some e.value } ∷ code_said
           (form_for row.form e.term) es e.context
 
     by-row : (e : Entry) → Among e es → (row : Row) → Among row rows → (cover : Covers law rows es invoice row e.term) → cover.writes e.context ≡ true →
@@ -934,34 +952,37 @@ module _ (law : Laws) (rows : List Row) (es : List Entry) (invoice : IsInvoice e
         (ap (λ x. is_some (term_in x)) cover.content) n.1) r.among in
         let due : is_in_its_currency all_nodes c pick ≡ true =
         ap (λ (x : Row). is_in c x.written (amount_currency all_nodes pick.node)) r.row_is ∙ in-due pick.node r.place r.own r.at r.leaf cover.total in
-        let second : Among pick (without_fillers all_nodes picked_at_all) =
-        among-filter (λ (x : Pick). not (is_filler all_nodes picked_at_all x)) pick picked_at_all
-        (ap not (not-filler pick.row.written _ (λ filler f. let rule = sym (ap (λ (x : Row). x.written) r.row_is) ∙ f in
-        no-filler-there pick r.string_is filler rule (cover.unfilled filler rule)))) first in
-        let third : Among pick (in_their_currencies all_nodes c (without_fillers all_nodes picked_at_all)) =
-        among-filter (is_in_its_currency all_nodes c) pick (without_fillers all_nodes picked_at_all) due second in
+        let second : Among pick (without_placeholders all_nodes picked_at_all) =
+        among-filter (λ (x : Pick). not (is_placeholder all_nodes picked_at_all x)) pick picked_at_all
+        (ap not (not-placeholder pick.row.written _ (λ placeholder f. let rule = sym (ap (λ (x : Row). x.written) r.row_is) ∙ f in
+        no-placeholder-there pick r.string_is placeholder rule (cover.unfilled placeholder rule)))) first in
+        let third : Among pick (in_their_currencies all_nodes c (without_placeholders all_nodes picked_at_all)) =
+        among-filter (is_in_its_currency all_nodes c) pick (without_placeholders all_nodes picked_at_all) due second in
         let node = of-map number pick.node all_nodes r.node in
         record {
           pick = pick;
           row_is = r.row_is;
           among = among-flat_map (λ (x : Node). filter (λ (y : Pick). y.node == x.number)
-              (in_their_currencies all_nodes c (without_fillers all_nodes picked_at_all))) node.0 pick all_nodes node.1.0
-              (among-filter (λ (y : Pick). y.node == node.0.number) pick (in_their_currencies all_nodes c (without_fillers all_nodes picked_at_all))
+              (in_their_currencies all_nodes c (without_placeholders all_nodes picked_at_all))) node.0 pick all_nodes node.1.0
+              (among-filter (λ (y : Pick). y.node == node.0.number) pick (in_their_currencies all_nodes c (without_placeholders all_nodes picked_at_all))
               (subst (λ x. (pick.node == x) ≡ true) (sym node.1.1) (same-is pick.node)) third);
           picked = r.picked;
           context = r.context;
           content = ap (λ (x : Row). x.content) r.row_is ∙ cover.content;
-          says = ap (λ (x : Row). said x.form e.term (string_at all_nodes pick.node)) r.row_is
-              ∙ said-as law rows es invoice row e.term e a refl (row-read row b e.term cover.content) (row-back row b e.term cover.content e a refl)
+          says = ap (λ (x : Row). parsed x.form e.term (string_at all_nodes pick.node)) r.row_is
+              ∙ parsed-as law rows es invoice row e.term e a refl (row-read row b e.term cover.content) (row-back row b e.term cover.content e a refl)
               (string_at all_nodes pick.node) r.string_is;
         }
       where
-        no-filler-there : (pick : Pick) → string_at all_nodes pick.node ≡ formed (form_for row.form e.term) es e.context e.value → (filler : Filler) →
-            row.written ≡ written.OrFiller filler → Absent es filler.beside ⊎ IsKept law rows es invoice row e.term filler
-            → (elim (bytes_eq (trimmed (string_at all_nodes pick.node)) filler.text) [ true ↦ stands_beside picked_at_all filler pick | false ↦ false ]) ≡ false
-        no-filler-there pick string_is filler rule (inl absent) = no-pick-beside filler pick absent (filler-term row b filler rule)
-        no-filler-there pick string_is filler rule (inr kept) =
-            ap (λ z. elim z [ true ↦ stands_beside picked_at_all filler pick | false ↦ false ]) (ap (λ s. bytes_eq (trimmed s) filler.text) string_is ∙
+        no-placeholder-there : (pick : Pick) → string_at all_nodes pick.node ≡ formed (form_for row.form e.term) es e.context e.value
+            → (placeholder : Placeholder) →
+            row.written ≡ written.OrPlaceholder placeholder → Absent es placeholder.beside ⊎ IsKept law rows es invoice row e.term placeholder
+            → (elim (bytes_eq (trimmed (string_at all_nodes pick.node)) placeholder.text) [ true ↦ stands_beside picked_at_all placeholder pick | false ↦
+                false ]) ≡ false
+        no-placeholder-there pick string_is placeholder rule (inl absent) = no-pick-beside placeholder pick absent (placeholder-term row b placeholder rule)
+        no-placeholder-there pick string_is placeholder rule (inr kept) =
+            ap (λ z. elim z [ true ↦ stands_beside picked_at_all placeholder pick | false ↦ false ]) (ap (λ s. bytes_eq (trimmed s) placeholder.text)
+                string_is ∙
             kept.other e a refl)
 
         in-due : (n : ℕ) (place : Place) → Among place (places_at rows es row.path) → IsAt all_nodes es place →
@@ -984,9 +1005,9 @@ module _ (law : Laws) (rows : List Row) (es : List Entry) (invoice : IsInvoice e
       context : picked.entry.context ≡ e.context
       term : Term
       content : pick.row.content ≡ contents.Term term
-      sayings : List Said
-      says : said pick.row.form term (string_at all_nodes pick.node) ≡ sayings
-      tells : Among (record { term = e.term; value = Some e.value }) sayings
+      parsed_values : List ParsedValue
+      says : parsed pick.row.form term (string_at all_nodes pick.node) ≡ parsed_values
+      tells : Among (record { term = e.term; value = Some e.value }) parsed_values
       of_term : (term ≡ e.term) ⊎ (e.term ≡ subject_code)
 
     own-told : (row : Row) (e : Entry) → ToPick row e → ToldPick e
@@ -997,7 +1018,7 @@ module _ (law : Laws) (rows : List Row) (es : List Entry) (invoice : IsInvoice e
       context = t.context;
       term = e.term;
       content = t.content;
-      sayings = record { term = e.term; value = Some e.value } ∷ code_said (form_for row.form e.term) es e.context;
+      parsed_values = record { term = e.term; value = Some e.value } ∷ code_said (form_for row.form e.term) es e.context;
       says = t.says;
       tells = inl refl;
       of_term = inl refl;
@@ -1013,7 +1034,7 @@ module _ (law : Laws) (rows : List Row) (es : List Entry) (invoice : IsInvoice e
       context = t.context ∙ same;
       term = x.term;
       content = t.content;
-      sayings = record { term = x.term; value = Some x.value } ∷ code_said (form_for row.form x.term) es x.context;
+      parsed_values = record { term = x.term; value = Some x.value } ∷ code_said (form_for row.form x.term) es x.context;
       says = t.says;
       tells = inr (subst (Among (record { term = e.term; value = Some e.value })) (sym here) (inl (λ i. record { term = sym is i; value = Some e.value })));
       of_term = inr is;
@@ -1201,9 +1222,9 @@ module _ (law : Laws) (rows : List Row) (es : List Entry) (invoice : IsInvoice e
     abbrev them : List Told
     them = told all_nodes (place_all all_nodes picks)
 
-    pub said-at : (pick : Pick) (term : Term) (sayings : List Said) → pick.row.content ≡ contents.Term term →
-        said pick.row.form term (string_at all_nodes pick.node) ≡ sayings → said_by all_nodes (placed all_nodes picks pick) ≡ sayings
-    said-at pick term sayings e s = ap (λ x. elim (term_in x) [ None ↦ [] | Some t ↦ said pick.row.form t (string_at all_nodes pick.node) ]) e ∙ s
+    pub parsed-at : (pick : Pick) (term : Term) (parsed_values : List ParsedValue) → pick.row.content ≡ contents.Term term →
+        parsed pick.row.form term (string_at all_nodes pick.node) ≡ parsed_values → parsed_by all_nodes (placed all_nodes picks pick) ≡ parsed_values
+    parsed-at pick term parsed_values e s = ap (λ x. elim (term_in x) [ None ↦ [] | Some t ↦ parsed pick.row.form t (string_at all_nodes pick.node) ]) e ∙ s
 
     -- what is told, with its pick and its entry: the one that the row writes, or a subject code in front of that
     pub record ToldBy (t : Told) : Type 0 where
@@ -1213,7 +1234,7 @@ module _ (law : Laws) (rows : List Row) (es : List Entry) (invoice : IsInvoice e
       pub entry : Entry
       pub known : Among entry es
       pub context : entry.context ≡ from.told_is.e.context
-      pub is : record { placed = placed all_nodes picks pick; said = record { term = entry.term; value = Some entry.value } } ≡ t
+      pub is : record { placed = placed all_nodes picks pick; parsed = record { term = entry.term; value = Some entry.value } } ≡ t
       pub kind : (entry ≡ from.told_is.e) ⊎ ((entry.term ≡ subject_code) × (form_for pick.row.form from.term ≡ forms.CodedNote))
 
     pub told-by-pick : (t : Told) → Among t them → ToldBy t
@@ -1223,15 +1244,15 @@ module _ (law : Laws) (rows : List Row) (es : List Entry) (invoice : IsInvoice e
         let pick : Pick = v.0 in
         let from = of-picks pick v.1.0 in
         let p : Placed = placed all_nodes picks pick in
-        let sayings : List Said = record { term = from.term; value = Some from.told_is.e.value } ∷ code_said
+        let parsed_values : List ParsedValue = record { term = from.term; value = Some from.told_is.e.value } ∷ code_said
         (form_for pick.row.form from.term) es from.told_is.e.context in
-        let told_here : Among t (map (λ s. record { placed = p; said = s }) (said_by all_nodes p)) =
+        let told_here : Among t (map (λ s. record { placed = p; parsed = s }) (parsed_by all_nodes p)) =
         subst (λ q. Among t (told_by all_nodes q)) (sym v.1.1) w.1.1 in
-        by-saying pick v.1.0 from (subst (λ l. Among t (map (λ s. record { placed = p; said = s }) l))
-        (said-at pick from.term sayings from.cover.content from.told_is.says) told_here)
+        by-saying pick v.1.0 from (subst (λ l. Among t (map (λ s. record { placed = p; parsed = s }) l))
+        (parsed-at pick from.term parsed_values from.cover.content from.told_is.says) told_here)
       where
         by-saying : (pick : Pick) → Among pick picks → (from : FromRow pick)
-            → Among t (map (λ s. record { placed = placed all_nodes picks pick; said = s })
+            → Among t (map (λ s. record { placed = placed all_nodes picks pick; parsed = s })
             (record { term = from.term; value = Some from.told_is.e.value } ∷ code_said (form_for pick.row.form from.term) es from.told_is.e.context)) →
             ToldBy t
         by-saying pick b from (inl s) = record {
@@ -1241,14 +1262,14 @@ module _ (law : Laws) (rows : List Row) (es : List Entry) (invoice : IsInvoice e
           entry = from.told_is.e;
           known = from.told_is.known;
           context = refl;
-          is = ap (λ u. record { placed = placed all_nodes picks pick; said = record { term = u; value = Some from.told_is.e.value } }) from.told_is.term_is ∙
+          is = ap (λ u. record { placed = placed all_nodes picks pick; parsed = record { term = u; value = Some from.told_is.e.value } }) from.told_is.term_is ∙
               s;
           kind = inl refl;
         }
         by-saying pick b from (inr m) =
-            let w = of-map (λ s. record { placed = placed all_nodes picks pick; said = s }) t
+            let w = of-map (λ s. record { placed = placed all_nodes picks pick; parsed = s }) t
             (code_said (form_for pick.row.form from.term) es from.told_is.e.context) m in
-            let k = of-code-said (form_for pick.row.form from.term) es from.told_is.e.context w.0 w.1.0 in
+            let k = of-code-parsed (form_for pick.row.form from.term) es from.told_is.e.context w.0 w.1.0 in
             record {
               pick = pick;
               among = b;
@@ -1256,7 +1277,7 @@ module _ (law : Laws) (rows : List Row) (es : List Entry) (invoice : IsInvoice e
               entry = record { context = from.told_is.e.context; term = subject_code; value = k.code };
               known = at-value law es invoice subject_code from.told_is.e.context k.code k.at;
               context = refl;
-              is = ap (λ s. record { placed = placed all_nodes picks pick; said = s }) k.is ∙ w.1.1;
+              is = ap (λ s. record { placed = placed all_nodes picks pick; parsed = s }) k.is ∙ w.1.1;
               kind = inr (refl, k.form_is);
             }
 
@@ -1270,7 +1291,7 @@ module _ (law : Laws) (rows : List Row) (es : List Entry) (invoice : IsInvoice e
           (
             w.known,
             record {
-              said = ap (λ (x : Told). x.said) (sym w.is);
+              parsed = ap (λ (x : Told). x.parsed) (sym w.is);
               context = ap (λ (x : Told). context_of x.placed) (sym w.is) ∙ (context-at w.pick w.among w.from ∙ sym w.context);
             },
           ),
@@ -1282,14 +1303,14 @@ module _ (law : Laws) (rows : List Row) (es : List Entry) (invoice : IsInvoice e
         let w = to-pick e a in
         let pick : Pick = w.pick in
         let p : Placed = placed all_nodes picks pick in
-        let said_so : Said = record { term = e.term; value = Some e.value } in
-        let t : Told = record { placed = p; said = said_so } in (
+        let said_so : ParsedValue = record { term = e.term; value = Some e.value } in
+        let t : Told = record { placed = p; parsed = said_so } in (
           t,
           (
             among-flat_map (told_by all_nodes) p t (place_all all_nodes picks) (among-map (placed all_nodes picks) pick picks w.among)
-                (among-map (λ s. record { placed = p; said = s }) said_so (said_by all_nodes p)
-                (subst (Among said_so) (sym (said-at pick w.term w.sayings w.content w.says)) w.tells)),
-            record { said = refl; context = context-is rows es invoice picks seats pick w.among w.picked ∙ w.context },
+                (among-map (λ s. record { placed = p; parsed = s }) said_so (parsed_by all_nodes p)
+                (subst (Among said_so) (sym (parsed-at pick w.term w.parsed_values w.content w.says)) w.tells)),
+            record { parsed = refl; context = context-is rows es invoice picks seats pick w.among w.picked ∙ w.context },
           ),
         )
 
@@ -1298,27 +1319,27 @@ module _ (law : Laws) (rows : List Row) (es : List Entry) (invoice : IsInvoice e
 
     -- what is told is an entry where it stands, and each entry is told
     pub told-says : (t : Told) → Contains them t → (e : Entry) ×
-        (Contains es e × ((t.said ≡ record { term = e.term; value = Some e.value }) × (context_of t.placed ≡ e.context)))
-    told-says t there = let w = told-entry t (contains-among t them there) in (w.0, (among-contains w.0 es w.1.0, (w.1.1.said, w.1.1.context)))
+        (Contains es e × ((t.parsed ≡ record { term = e.term; value = Some e.value }) × (context_of t.placed ≡ e.context)))
+    told-says t there = let w = told-entry t (contains-among t them there) in (w.0, (among-contains w.0 es w.1.0, (w.1.1.parsed, w.1.1.context)))
 
     pub entry-says : (e : Entry) → Contains es e → (t : Told) ×
-        (Contains them t × ((t.said ≡ record { term = e.term; value = Some e.value }) × (context_of t.placed ≡ e.context)))
-    entry-says e there = let w = entry-told e (contains-among e es there) in (w.0, (among-contains w.0 them w.1.0, (w.1.1.said, w.1.1.context)))
+        (Contains them t × ((t.parsed ≡ record { term = e.term; value = Some e.value }) × (context_of t.placed ≡ e.context)))
+    entry-says e there = let w = entry-told e (contains-among e es there) in (w.0, (among-contains w.0 them w.1.0, (w.1.1.parsed, w.1.1.context)))
 
     -- each pick says an entry, and each entry is said, where it stands, if no subject code stands in front of a note
     abbrev pub Says : Placed → Entry → Type 0
-    Says p e = (said_by all_nodes p ≡ record { term = e.term; value = Some e.value } ∷ []) × (context_of p ≡ e.context)
+    Says p e = (parsed_by all_nodes p ≡ record { term = e.term; value = Some e.value } ∷ []) × (context_of p ≡ e.context)
 
     module _ (unheld_codes : holds_none (code_terms rows) es ≡ true) where
-      no-code-said : (row : Row) → Among row rows → (term : Term) → row.content ≡ contents.Term term → HasCodes law rows es invoice row term → (d : Context) →
+      no-code-parsed : (row : Row) → Among row rows → (term : Term) → row.content ≡ contents.Term term → HasCodes law rows es invoice row term → (d : Context) →
           code_said (form_for row.form term) es d ≡ []
-      no-code-said row a term content codes d = go (form_for row.form term) refl
+      no-code-parsed row a term content codes d = go (form_for row.form term) refl
         where
           go : (form : Form) → form_for row.form term ≡ form → code_said form es d ≡ []
           go forms.Model e = refl
           go forms.PlainDate e = refl
           go forms.DueDateTypeCode e = refl
-          go (forms.Typed letter) e = refl
+          go (forms.Typed data_type) e = refl
           go forms.TypedPlainDate e = refl
           go forms.CodedNote e =
               ap (λ o. elim o [ None ↦ [] | Some code ↦ record { term = subject_code; value = Some code } ∷ [] ])
@@ -1334,15 +1355,15 @@ module _ (law : Laws) (rows : List Row) (es : List Entry) (invoice : IsInvoice e
               ∙ ap (λ f. elim (is_coded f) [ true ↦ subject_code ∷ [] | false ↦ [] ]) e))
               (inl refl))))))
 
-      one-said : (pick : Pick) (from : FromRow pick) → said_by all_nodes (placed all_nodes picks pick) ≡ record {
+      one-parsed : (pick : Pick) (from : FromRow pick) → parsed_by all_nodes (placed all_nodes picks pick) ≡ record {
         term = from.told_is.e.term;
         value =
             Some from.told_is.e.value;
       } ∷ []
-      one-said pick from =
-          said-at pick from.term (record { term = from.term; value = Some from.told_is.e.value } ∷ code_said
+      one-parsed pick from =
+          parsed-at pick from.term (record { term = from.term; value = Some from.told_is.e.value } ∷ code_said
           (form_for pick.row.form from.term) es from.told_is.e.context) from.cover.content from.told_is.says
-          ∙ ((λ i. record { term = sym from.told_is.term_is i; value = Some from.told_is.e.value } ∷ no-code-said pick.row from.known from.term
+          ∙ ((λ i. record { term = sym from.told_is.term_is i; value = Some from.told_is.e.value } ∷ no-code-parsed pick.row from.known from.term
           from.cover.content from.cover.codes from.told_is.e.context i))
 
       pub picks-say : (p : Placed) → Contains (place_all all_nodes picks) p → (e : Entry) × (Contains es e × Says p e)
@@ -1354,23 +1375,23 @@ module _ (law : Laws) (rows : List Row) (es : List Entry) (invoice : IsInvoice e
             (
               among-contains from.told_is.e es from.told_is.known,
               subst (λ (q : Placed). Says q from.told_is.e) v.1.1 (
-                one-said pick from,
+                one-parsed pick from,
                 context-is rows es invoice picks seats pick v.1.0 from.told_is.picked ∙
                     from.told_is.context,
               ),
             ),
           )
 
-      pub entries-said : (e : Entry) → Contains es e → (p : Placed) × (Contains (place_all all_nodes picks) p × Says p e)
-      entries-said e there =
+      pub entries-parsed : (e : Entry) → Contains es e → (p : Placed) × (Contains (place_all all_nodes picks) p × Says p e)
+      entries-parsed e there =
           let w = to-pick e (contains-among e es there) in
           let pick : Pick = w.pick in
           let from = of-picks pick w.among in
-          let said_so : Said = record { term = e.term; value = Some e.value } in
-          let one = one-said pick from in
+          let said_so : ParsedValue = record { term = e.term; value = Some e.value } in
+          let one = one-parsed pick from in
           let same : record { term = from.told_is.e.term; value = Some from.told_is.e.value } ≡ said_so =
           only (record { term = from.told_is.e.term; value = Some from.told_is.e.value }) said_so
-          (subst (Among said_so) (sym (said-at pick w.term w.sayings w.content w.says) ∙ one) w.tells) in (
+          (subst (Among said_so) (sym (parsed-at pick w.term w.parsed_values w.content w.says) ∙ one) w.tells) in (
             placed all_nodes picks pick,
             (
               among-contains (placed all_nodes picks pick) (place_all all_nodes picks) (among-map (placed all_nodes picks) pick picks w.among),
@@ -1378,20 +1399,21 @@ module _ (law : Laws) (rows : List Row) (es : List Entry) (invoice : IsInvoice e
             ),
           )
         where
-          only : (x y : Said) → Among y (x ∷ []) → x ≡ y
+          only : (x y : ParsedValue) → Among y (x ∷ []) → x ≡ y
           only x y (inl s) = s
           only x y (inr z) = absurd z
 
     -- what is told of one seat is one value
-    pub seats-agree : (a b : Told) → Contains them a → Contains them b → is_of_seat a b ≡ true → a.said ≡ b.said
+    pub seats-agree : (a b : Told) → Contains them a → Contains them b → is_of_seat a b ≡ true → a.parsed ≡ b.parsed
     seats-agree a b x y same =
         let v = told-entry a (contains-among a them x) in
         let w = told-entry b (contains-among b them y) in
         let seat = one-seat es invoice.listed a b same in
         let one : v.0 ≡ w.0 =
-        same-seat es invoice.listed v.0 w.0 v.1.0 w.1.0 (ap (λ (x : Said). x.term) (sym v.1.1.said) ∙ (seat.term ∙ ap (λ (x : Said). x.term) w.1.1.said))
+        same-seat es invoice.listed v.0 w.0 v.1.0 w.1.0 (ap (λ (x : ParsedValue). x.term) (sym v.1.1.parsed) ∙ (seat.term
+            ∙ ap (λ (x : ParsedValue). x.term) w.1.1.parsed))
         (sym v.1.1.context ∙ (seat.context ∙ w.1.1.context)) in
-        v.1.1.said ∙ (ap (λ (e : Entry). record { term = e.term; value = Some e.value }) one ∙ sym w.1.1.said)
+        v.1.1.parsed ∙ (ap (λ (e : Entry). record { term = e.term; value = Some e.value }) one ∙ sym w.1.1.parsed)
 
     -- nothing that is picked has an element inside
     pub none-inside : (p : Placed) → Contains (place_all all_nodes picks) p → has_element_inside all_nodes p.pick.node ≡ false

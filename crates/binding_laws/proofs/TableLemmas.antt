@@ -13,8 +13,8 @@ use Rattle.bind_rows.specs.declared.rows.Row.{Row}
 use Rattle.bind_table.specs.WellFormed.{first_fault}
 use Rattle.ubl_binding.specs.Tables.{invoice_listing, invoice_rows, credit_note_listing, credit_note_rows}
 use Rattle.cii_binding.specs.Table.{cii_listing, cii_rows}
-use Rattle.bind_rows.specs.declared.tables.Which.{Which}
-use Rattle.bind_rows.specs.declared.tables.Which.TheVariants as which
+use Rattle.bind_rows.specs.declared.tables.DocumentType.{DocumentType}
+use Rattle.bind_rows.specs.declared.tables.DocumentType.TheVariants as document_type
 use Rattle.bind_meaning.specs.Tables.{rows_of}
 use Rattle.bind_meaning.specs.Terms.{Read, terms_of}
 use Rattle.bind_meaning.specs.Trees.{document_of}
@@ -44,19 +44,19 @@ unfolding cii_listing cii_rows
 long-cii = refl
 
 pub tables-read : Laws → first_fault invoice_rows ≡ Ok tt → first_fault credit_note_rows ≡ Ok tt → first_fault cii_rows ≡ Ok tt →
-    (table : Which) (es : List Entry) (lists : Lists) → IsInvoice es → IsValid es lists
+    (table : DocumentType) (es : List Entry) (lists : Lists) → IsInvoice es → IsValid es lists
     → holds_plainly (rows_of table) es ≡ true → terms_of (document_nodes (document_of (rows_of table) es)) (rows_of table) lists ≡ Ok
     (record { entries = es; passed_over = 0 })
-tables-read law a b c which.Invoice es lists invoice is_valid plainly =
+tables-read law a b c document_type.Invoice es lists invoice is_valid plainly =
     read-exactly law invoice_rows es invoice (long-by-test invoice_rows long-invoice) a settled-invoice plainly lists is_valid faultless-invoice
-tables-read law a b c which.CreditNote es lists invoice is_valid plainly =
+tables-read law a b c document_type.CreditNote es lists invoice is_valid plainly =
     read-exactly law credit_note_rows es invoice (long-by-test credit_note_rows long-credit_note) b settled-credit_note plainly lists is_valid
     faultless-credit_note
-tables-read law a b c which.Cii es lists invoice is_valid plainly =
+tables-read law a b c document_type.Cii es lists invoice is_valid plainly =
     read-exactly law cii_rows es invoice (long-by-test cii_rows long-cii) c settled-cii plainly lists is_valid faultless-cii
 
 pub tables-convert : Laws → first_fault invoice_rows ≡ Ok tt → first_fault credit_note_rows ≡ Ok tt → first_fault cii_rows ≡ Ok tt →
-    (first second : Which) (es : List Entry) (lists : Lists) → IsInvoice es → IsValid es lists
+    (first second : DocumentType) (es : List Entry) (lists : Lists) → IsInvoice es → IsValid es lists
     → holds_plainly (rows_of first) es ≡ true → holds_plainly (rows_of second) es ≡ true
     → (read : Read) × ((terms_of (document_nodes (document_of (rows_of first) es)) (rows_of first) lists ≡ Ok read)
     × ((again : Read) × ((terms_of (document_nodes (document_of (rows_of second) read.entries)) (rows_of second) lists ≡ Ok again)

@@ -4,7 +4,7 @@ use Rattle.std.proofs.Common.{◌≡◌, Bool, true, false, ◌&&◌, List, Opti
 use Rattle.std.specs.Prelude.{is_some, option_and_then}
 use Rattle.std.specs.List.{list_all}
 use Rattle.std.proofs.lemmas.Bool.{false≢true}
-use Rattle.term_table.specs.declared.terms.Letter.{Letter}
+use Rattle.term_table.specs.declared.terms.DataType.{DataType}
 use Rattle.term_table.specs.declared.terms.Term.{Term}
 use Rattle.term_table.specs.SemanticModel.{is_extension}
 use Rattle.term_table.specs.declared.contexts.Context.{Context}
@@ -18,7 +18,7 @@ use Rattle.bind_rows.specs.declared.rows.Row.{Row}
 use Rattle.bind_rows.specs.declared.rows.Written.{Written}
 use Rattle.bind_rows.specs.declared.rows.Written.TheVariants as written
 use Rattle.bind_rows.specs.Same.{choose}
-use Rattle.bind_rows.specs.Added.{letter_of_form, is_typed, is_added_type, adds_term, is_element, is_unguarded, is_once, is_always, is_unjudged}
+use Rattle.bind_rows.specs.Added.{data_type_of_form, is_typed, is_added_type, adds_term, is_element, is_unguarded, is_once, is_always, is_unjudged}
 use Rattle.bind_rows.specs.Added.{is_root_or_line, is_unmarked, is_added}
 use Rattle.bind_meaning.specs.Values.{form_for}
 use Rattle.bind_meaning.specs.Writing.{has_slots, is_of_type, of_type, of_form, value_for}
@@ -30,7 +30,7 @@ one-untyped forms.Model h = refl
 one-untyped forms.PlainDate h = refl
 one-untyped forms.DueDateTypeCode h = refl
 one-untyped forms.CodedNote h = absurd (false≢true h)
-one-untyped (forms.Typed letter) h = absurd (false≢true h)
+one-untyped (forms.Typed data_type) h = absurd (false≢true h)
 one-untyped forms.TypedPlainDate h = absurd (false≢true h)
 
 -- ---- rows that a user added
@@ -39,7 +39,7 @@ one-untyped forms.TypedPlainDate h = absurd (false≢true h)
 pub record SaysAdded (row : Row) : Type 0 where
   pub term : adds_term row.content ≡ true
   pub always : row.written ≡ written.Always
-  pub type : is_added_type (letter_of_form row.form) ≡ true
+  pub type : is_added_type (data_type_of_form row.form) ≡ true
 
 always-is : (rule : Written) → is_always rule ≡ true → rule ≡ written.Always
 always-is written.Always h = refl
@@ -48,7 +48,7 @@ always-is written.IfIban h = absurd (false≢true h)
 always-is written.IfNotIban h = absurd (false≢true h)
 always-is written.IfScheme h = absurd (false≢true h)
 always-is written.IfNoScheme h = absurd (false≢true h)
-always-is (written.OrFiller filler) h = absurd (false≢true h)
+always-is (written.OrPlaceholder placeholder) h = absurd (false≢true h)
 always-is written.VatTotal h = absurd (false≢true h)
 always-is written.AccountingVatTotal h = absurd (false≢true h)
 
@@ -61,26 +61,27 @@ added-says row h = go (adds_term row.content) refl h
         let b = both-true (list_all is_unguarded row.path) _ a.1 in
         let c = both-true (is_once row.repeats) _ b.1 in
         let d = both-true (is_always row.written) _ c.1 in
-        record { term = term; always = always-is row.written d.0; type = (both-true (is_unjudged row.check) (is_added_type (letter_of_form row.form)) d.1).1 }
+        record { term = term; always = always-is row.written d.0; type = (both-true (is_unjudged row.check) (is_added_type (data_type_of_form row.form))
+            d.1).1 }
 
     go : (b : Bool) → adds_term row.content ≡ b → choose b (λ _. is_root_or_line row.outer row.inner && is_unmarked row) (λ _. false) ≡ true → SaysAdded row
     go true e k = marked e (both-true (is_root_or_line row.outer row.inner) (is_unmarked row) k).1
     go false e k = absurd (false≢true k)
 
-pub typed-form : (form : Form) (term : Term) → is_added_type (letter_of_form form) ≡ true → is_extension term ≡ true → form_for form term ≡ form
+pub typed-form : (form : Form) (term : Term) → is_added_type (data_type_of_form form) ≡ true → is_extension term ≡ true → form_for form term ≡ form
 typed-form forms.Model term k e = refl
 typed-form forms.PlainDate term k e = absurd (false≢true k)
 typed-form forms.DueDateTypeCode term k e = absurd (false≢true k)
 typed-form forms.CodedNote term k e = absurd (false≢true k)
-typed-form (forms.Typed letter) term k e = λ i. elim (e i && k i) [ true ↦ forms.Typed letter | false ↦ forms.Model ]
+typed-form (forms.Typed data_type) term k e = λ i. elim (e i && k i) [ true ↦ forms.Typed data_type | false ↦ forms.Model ]
 typed-form forms.TypedPlainDate term k e = ap (λ b. elim b [ true ↦ forms.TypedPlainDate | false ↦ forms.Model ]) e
 
-pub type-typed : (form : Form) → is_added_type (letter_of_form form) ≡ true → is_typed form ≡ true
+pub type-typed : (form : Form) → is_added_type (data_type_of_form form) ≡ true → is_typed form ≡ true
 type-typed forms.Model k = absurd (false≢true k)
 type-typed forms.PlainDate k = absurd (false≢true k)
 type-typed forms.DueDateTypeCode k = absurd (false≢true k)
 type-typed forms.CodedNote k = absurd (false≢true k)
-type-typed (forms.Typed letter) k = refl
+type-typed (forms.Typed data_type) k = refl
 type-typed forms.TypedPlainDate k = refl
 
 -- Its form is one for its term.
@@ -119,16 +120,16 @@ taken-or-refused row es term c = go (is_typed (form_for row.form term)) (has_slo
     by-type true v = inl refl
     by-type false v = inr refl
 
-    by-letter : (o : Option Letter) (v : Value) → ((elim o [ None ↦ Some v | Some letter ↦ of_type letter v ]) ≡ Some v) ⊎
-        ((elim o [ None ↦ Some v | Some letter ↦ of_type letter v ]) ≡ None)
-    by-letter None v = inl refl
-    by-letter (Some letter) v = by-type (is_of_type letter v) v
+    by-data_type : (o : Option DataType) (v : Value) → ((elim o [ None ↦ Some v | Some data_type ↦ of_type data_type v ]) ≡ Some v) ⊎
+        ((elim o [ None ↦ Some v | Some data_type ↦ of_type data_type v ]) ≡ None)
+    by-data_type None v = inl refl
+    by-data_type (Some data_type) v = by-type (is_of_type data_type v) v
 
     go : (a b : Bool) (o : Option Value) → (passed a b (form_for row.form term) o ≡ o) ⊎ (passed a b (form_for row.form term) o ≡ None)
     go false b o = inl refl
     go true false o = inr refl
     go true true None = inl refl
-    go true true (Some v) = by-letter (letter_of_form (form_for row.form term)) v
+    go true true (Some v) = by-data_type (data_type_of_form (form_for row.form term)) v
 
 -- A row whose form has a type takes a value of that type in a context with its groups.
 pub takes-value : (row : Row) (es : List Entry) (term : Term) (c : Context) (v : Value) → is_typed (form_for row.form term) ≡ true → has_slots row c ≡ true →
@@ -141,17 +142,18 @@ pub taken-is : (row : Row) (es : List Entry) (term : Term) (c : Context) (v : Va
     is_some (value_for row es term c) ≡ true
     → of_form (form_for row.form term) v ≡ Some v
 taken-is row es term c v typed is some =
-    go (has_slots row c) (letter_of_form (form_for row.form term)) ((λ i. is_some (passed (sym typed i) (has_slots row c) (form_for row.form term) (sym is i)))
+    go (has_slots row c) (data_type_of_form (form_for row.form term)) ((λ i. is_some (passed (sym typed i) (has_slots row c) (form_for row.form term) (sym is
+        i)))
     ∙ some)
   where
     by-type : (b : Bool) → is_some (elim b [ true ↦ Some v | false ↦ None ]) ≡ true → ◌≡◌ {A = Option Value} (elim b [ true ↦ Some v | false ↦ None ]) (Some v)
     by-type true h = refl
     by-type false h = absurd (false≢true h)
 
-    go : (b : Bool) (o : Option Letter) → is_some (elim b [ true ↦ elim o [ None ↦ Some v | Some letter ↦ of_type letter v ] | false ↦ None ]) ≡ true
-        → ◌≡◌ {A = Option Value} (elim o [ None ↦ Some v | Some letter ↦ of_type letter v ]) (Some v)
+    go : (b : Bool) (o : Option DataType) → is_some (elim b [ true ↦ elim o [ None ↦ Some v | Some data_type ↦ of_type data_type v ] | false ↦ None ]) ≡ true
+        → ◌≡◌ {A = Option Value} (elim o [ None ↦ Some v | Some data_type ↦ of_type data_type v ]) (Some v)
     go true None h = refl
-    go true (Some letter) h = by-type (is_of_type letter v) h
+    go true (Some data_type) h = by-type (is_of_type data_type v) h
     go false o h = absurd (false≢true h)
 
 -- A row whose form has a type writes something only in a context with its groups.

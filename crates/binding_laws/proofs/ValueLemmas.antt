@@ -29,20 +29,20 @@ or_nothing o = elim o [ None ↦ [] | Some text ↦ text ]
 abbrev pub IsUnfilled : List Entry → Row → Term → Context → Type 0
 IsUnfilled es row term c = (filled row.written es c ≡ None) ⊎ (is_some (value_for row es term c) ≡ true)
 
--- a rule on the value and its scheme alone has no filler
-no-filler : (es : List Entry) (rule : Written) → is_by_value rule ≡ true → (c : Context) → filled rule es c ≡ None
-no-filler es written.Always h c = refl
-no-filler es written.Never h c = refl
-no-filler es written.IfIban h c = refl
-no-filler es written.IfNotIban h c = refl
-no-filler es written.IfScheme h c = refl
-no-filler es written.IfNoScheme h c = refl
-no-filler es (written.OrFiller filler) h c = absurd (false≢true h)
-no-filler es written.VatTotal h c = refl
-no-filler es written.AccountingVatTotal h c = refl
+-- a rule on the value and its scheme alone has no placeholder
+no-placeholder : (es : List Entry) (rule : Written) → is_by_value rule ≡ true → (c : Context) → filled rule es c ≡ None
+no-placeholder es written.Always h c = refl
+no-placeholder es written.Never h c = refl
+no-placeholder es written.IfIban h c = refl
+no-placeholder es written.IfNotIban h c = refl
+no-placeholder es written.IfScheme h c = refl
+no-placeholder es written.IfNoScheme h c = refl
+no-placeholder es (written.OrPlaceholder placeholder) h c = absurd (false≢true h)
+no-placeholder es written.VatTotal h c = refl
+no-placeholder es written.AccountingVatTotal h c = refl
 
 pub by-value : (es : List Entry) (row : Row) (term : Term) → is_by_value row.written ≡ true → (d : Context) → IsUnfilled es row term (context_for row d)
-by-value es row term h d = inl (no-filler es row.written h (context_for row d))
+by-value es row term h d = inl (no-placeholder es row.written h (context_for row d))
 
 module _ (es : List Entry) (row : Row) (term : Term) (content : row.content ≡ contents.Term term)
     (unfilled : (d : Context) → IsUnfilled es row term (context_for row d)) where
@@ -121,7 +121,7 @@ module _ (es : List Entry) (row : Row) (term : Term) (content : row.content ≡ 
       by-test : (b : Bool) → (if_so b text ≡ None) ⊎ (if_so b text ≡ Some text)
       by-test true = inr refl
       by-test false = inl refl
-  due-or-not (written.OrFiller filler) c text = inr refl
+  due-or-not (written.OrPlaceholder placeholder) c text = inr refl
   due-or-not written.VatTotal c text = inr refl
   due-or-not written.AccountingVatTotal c text = inr refl
 

@@ -1,15 +1,15 @@
 -- Which values of an invoice plain and spread rows of a table write, and those of the two VAT totals, and which terms are
--- left out: those that other rows of the table speak of, and those beside which a filler stands that isn't told from values.
+-- left out: those that other rows of the table speak of, and those beside which a placeholder stands that isn't told from values.
 use Rattle.std.specs.Prelude.{ℕ, ◌==◌, Bool, true, false, not, ◌&&◌, ◌||◌, List, [], ◌∷◌, ◌++◌, length, filter, flat_map, map, Option, Some, None, is_some}
 use Rattle.std.specs.Prelude.{is_none, option_map}
 use Rattle.std.specs.List.{list_all, list_any}
 use Rattle.std.specs.Str.{bytes_eq}
-use Rattle.term_table.specs.declared.terms.Letter.TheVariants as letters
+use Rattle.term_table.specs.declared.terms.DataType.TheVariants as data_types
 use Rattle.term_table.specs.declared.terms.Term.{Term}
 use Rattle.term_table.specs.declared.terms.TermRow.{TermRow}
 use Rattle.term_table.specs.SemanticModel.{same_term, terms}
 use Rattle.term_table.specs.Contexts.{root_context}
-use Rattle.term_table.specs.Rows.{letter_of}
+use Rattle.term_table.specs.Rows.{data_type_of}
 use Rattle.inv_terms.specs.declared.entries.Entry.{Entry}
 use Rattle.inv_terms.specs.Values.{is_blank, trimmed, spelled}
 use Rattle.inv_terms.specs.Listing.{value_in}
@@ -20,7 +20,7 @@ use Rattle.bind_rows.specs.declared.names.Leaf.TheVariants as leaves
 use Rattle.bind_rows.specs.declared.rows.Content.TheVariants as contents
 use Rattle.bind_rows.specs.declared.rows.Step.{Step}
 use Rattle.bind_rows.specs.declared.rows.Row.{Row}
-use Rattle.bind_rows.specs.declared.rows.Filler.{Filler}
+use Rattle.bind_rows.specs.declared.rows.Placeholder.{Placeholder}
 use Rattle.bind_rows.specs.declared.rows.Form.{Form}
 use Rattle.bind_rows.specs.declared.rows.Form.TheVariants as forms
 use Rattle.bind_rows.specs.declared.rows.Written.{Written}
@@ -40,16 +40,16 @@ use Rattle.binding_laws.specs.Plain.{rows_at, is_one, is_element, is_always, has
 use Rattle.binding_laws.specs.Plain.{is_plain_with, is_plain_attribute_in, is_plain_attribute_with, is_spread_in, is_spread_with, is_spread_attribute_in}
 use Rattle.binding_laws.specs.Plain.{is_written_by, is_plain_by, is_spread_by, is_plain_beside, is_spread_beside}
 
-abbrev pub is_or_filler : Written → Bool
-is_or_filler written.Always = false
-is_or_filler written.Never = false
-is_or_filler written.IfIban = false
-is_or_filler written.IfNotIban = false
-is_or_filler written.IfScheme = false
-is_or_filler written.IfNoScheme = false
-is_or_filler (written.OrFiller filler) = true
-is_or_filler written.VatTotal = false
-is_or_filler written.AccountingVatTotal = false
+abbrev pub is_or_placeholder : Written → Bool
+is_or_placeholder written.Always = false
+is_or_placeholder written.Never = false
+is_or_placeholder written.IfIban = false
+is_or_placeholder written.IfNotIban = false
+is_or_placeholder written.IfScheme = false
+is_or_placeholder written.IfNoScheme = false
+is_or_placeholder (written.OrPlaceholder placeholder) = true
+is_or_placeholder written.VatTotal = false
+is_or_placeholder written.AccountingVatTotal = false
 
 abbrev pub is_filled_there : Plan → Row → Term → Bool
 is_filled_there plan row term =
@@ -58,9 +58,9 @@ is_filled_there plan row term =
     && (is_element row.leaf && (has_content term row.content &&
     (is_of_one_term (form_for row.form term) && (is_none row.outer && (is_none row.inner && stands_there term None None))))))
 
--- The row is spread, but for a filler that may stand in its place.
+-- The row is spread, but for a placeholder that may stand in its place.
 abbrev pub is_filled_in : Plan → Row → Term → Bool
-is_filled_in plan row term = elim (is_or_filler row.written) [ true ↦ is_filled_there plan row term | false ↦ false ]
+is_filled_in plan row term = elim (is_or_placeholder row.written) [ true ↦ is_filled_there plan row term | false ↦ false ]
 
 abbrev pub is_filled_by : Plan → Row → Bool
 is_filled_by plan row = elim row.content [ (contents.Term term) ↦ is_filled_in plan row term | (contents.Constant text) ↦ false ]
@@ -107,14 +107,14 @@ is_total_there plan gone row term =
 
 -- ---- both VAT totals, which their currencies alone tell apart
 
--- the terms beside which a filler stands
-abbrev pub beside_filler : Row → List Term
-beside_filler row = elim row.written [ (written.OrFiller filler) ↦ filler.beside ∷ [] | _ ↦ [] ]
+-- the terms beside which a placeholder stands
+abbrev pub beside_placeholder : Row → List Term
+beside_placeholder row = elim row.written [ (written.OrPlaceholder placeholder) ↦ placeholder.beside ∷ [] | _ ↦ [] ]
 
--- It is the row of one of both totals: placed so without the terms of the other, of an amount beside which no filler stands.
+-- It is the row of one of both totals: placed so without the terms of the other, of an amount beside which no placeholder stands.
 abbrev pub is_half : Plan → List Row → List Term → Row → Bool
 is_half plan rows others row = elim row.content [
-  | (contents.Term term) ↦ is_total_there plan others row term && (is_amount row && not (list_any (λ t. has_term t row) (flat_map beside_filler rows)))
+  | (contents.Term term) ↦ is_total_there plan others row term && (is_amount row && not (list_any (λ t. has_term t row) (flat_map beside_placeholder rows)))
   | (contents.Constant text) ↦ false
 ]
 
@@ -157,7 +157,7 @@ is_total_in plan rows row term = elim (is_total_rule row.written) [ true ↦ is_
 abbrev pub is_total_by : Plan → List Row → Row → Bool
 is_total_by plan rows row = elim row.content [ (contents.Term term) ↦ is_total_in plan rows row term | (contents.Constant text) ↦ false ]
 
--- ---- fillers that are told from values
+-- ---- placeholders that are told from values
 
 -- Both paths end right inside one element, which is no occurrence of a group.
 abbrev pub are_beside : List Step → List Step → Bool
@@ -168,34 +168,34 @@ are_beside (s ∷ []) (v ∷ (w ∷ other)) = false
 are_beside (s ∷ (u ∷ path)) (v ∷ []) = false
 are_beside (s ∷ (u ∷ path)) (v ∷ (w ∷ other)) = same_step s v && (is_none s.group && are_beside (u ∷ path) (w ∷ other))
 
--- The other row writes the term beside the filler, wherever it stands, in an element beside the filler's.
-abbrev pub is_row_beside : Plan → Row → Filler → Row → Bool
-is_row_beside plan row filler other = is_spread_in plan other filler.beside && (is_always other.written && are_beside row.path other.path)
+-- The other row writes the term beside the placeholder, wherever it stands, in an element beside the placeholder's.
+abbrev pub is_row_beside : Plan → Row → Placeholder → Row → Bool
+is_row_beside plan row placeholder other = is_spread_in plan other placeholder.beside && (is_always other.written && are_beside row.path other.path)
 
-abbrev pub is_told_filler : Plan → List Row → Row → Term → Filler → Bool
-is_told_filler plan rows row term filler =
-    list_any (is_row_beside plan row filler) rows
-    && (bytes_eq (trimmed filler.text) filler.text
+abbrev pub is_told_placeholder : Plan → List Row → Row → Term → Placeholder → Bool
+is_told_placeholder plan rows row term placeholder =
+    list_any (is_row_beside plan row placeholder) rows
+    && (bytes_eq (trimmed placeholder.text) placeholder.text
     && (is_model (form_for row.form term)
-    && (is_trimmed (letter_of term) && (not (has_term invoice_currency row || has_term accounting_currency row) &&
-    not (list_any (λ t. has_term t row) (flat_map beside_filler rows))))))
+    && (is_trimmed (data_type_of term) && (not (has_term invoice_currency row || has_term accounting_currency row) &&
+    not (list_any (λ t. has_term t row) (flat_map beside_placeholder rows))))))
 
--- What the row writes is told from its filler, since the term beside that is written next to it.
+-- What the row writes is told from its placeholder, since the term beside that is written next to it.
 abbrev pub is_joined : Plan → List Row → Row → Bool
 is_joined plan rows row = elim row.content [
-  | (contents.Term term) ↦ elim row.written [ (written.OrFiller filler) ↦ is_told_filler plan rows row term filler | _ ↦ false ]
+  | (contents.Term term) ↦ elim row.written [ (written.OrPlaceholder placeholder) ↦ is_told_placeholder plan rows row term placeholder | _ ↦ false ]
   | (contents.Constant text) ↦ false
 ]
 
--- the terms beside fillers that aren't
+-- the terms beside placeholders that aren't
 abbrev pub unjoined_terms : Plan → List Row → List Term
-unjoined_terms plan rows = flat_map (λ row. elim (is_joined plan rows row) [ true ↦ [] | false ↦ beside_filler row ]) rows
+unjoined_terms plan rows = flat_map (λ row. elim (is_joined plan rows row) [ true ↦ [] | false ↦ beside_placeholder row ]) rows
 
--- The entry's value is the filler, and the term beside it stands too.
-abbrev pub is_like_filler : Plan → List Row → List Entry → Entry → Row → Bool
-is_like_filler plan rows es e row = elim row.written [
-  | (written.OrFiller filler) ↦ is_joined plan rows row &&
-      (has_term e.term row && (bytes_eq filler.text (spelled e.value) && is_some (value_in es filler.beside e.context)))
+-- The entry's value is the placeholder, and the term beside it stands too.
+abbrev pub is_like_placeholder : Plan → List Row → List Entry → Entry → Row → Bool
+is_like_placeholder plan rows es e row = elim row.written [
+  | (written.OrPlaceholder placeholder) ↦ is_joined plan rows row &&
+      (has_term e.term row && (bytes_eq placeholder.text (spelled e.value) && is_some (value_in es placeholder.beside e.context)))
   | _ ↦ false
 ]
 
@@ -235,7 +235,7 @@ is_coded forms.Model = false
 is_coded forms.PlainDate = false
 is_coded forms.DueDateTypeCode = false
 is_coded forms.CodedNote = true
-is_coded (forms.Typed letter) = false
+is_coded (forms.Typed data_type) = false
 is_coded forms.TypedPlainDate = false
 
 -- The row is plain, but for a subject code that it writes in front of its value, and no row has that term.
@@ -289,7 +289,7 @@ is_bad_note rows es e = list_any is_coded_row rows && is_misread_note es e
 
 -- ---- rows that are covered
 
--- The row is plain or spread, at an element or at an attribute of one, or spread but for a filler, or that of a VAT total,
+-- The row is plain or spread, at an element or at an attribute of one, or spread but for a placeholder, or that of a VAT total,
 -- or values tell it apart, or it would be plain but for a subject code in front.
 abbrev pub is_covered_in : Plan → List Row → Row → Bool
 is_covered_in plan rows row =
@@ -347,8 +347,8 @@ is_read_back forms.Model value = true
 is_read_back forms.PlainDate value = true
 is_read_back forms.DueDateTypeCode value = is_imaged value
 is_read_back forms.CodedNote value = true
-is_read_back (forms.Typed letter) value = is_of_type letter value
-is_read_back forms.TypedPlainDate value = is_of_type letters.D value
+is_read_back (forms.Typed data_type) value = is_of_type data_type value
+is_read_back forms.TypedPlainDate value = is_of_type data_types.D value
 
 -- Each row of the entry's term reads what it writes of its value as that value.
 abbrev pub reads_back : List Row → Entry → Bool
@@ -389,7 +389,7 @@ rows_there plan row = rows_named row.leaf plan row.path
 -- the terms whose values a row looks at
 abbrev pub terms_in : Row → List Term
 terms_in row = elim row.content [
-  | (contents.Term term) ↦ term ∷ elim row.written [ (written.OrFiller filler) ↦ filler.beside ∷ [] | _ ↦ [] ]
+  | (contents.Term term) ↦ term ∷ elim row.written [ (written.OrPlaceholder placeholder) ↦ placeholder.beside ∷ [] | _ ↦ [] ]
   | (contents.Constant text) ↦ []
 ]
 
@@ -400,7 +400,7 @@ is_shadowed plan rows row =
     is_accounting_rule row.written
     && (is_element row.leaf
     && (not (has_term invoice_currency row || has_term accounting_currency row)
-    && (not (list_any (λ term. has_term term row) (flat_map beside_filler rows)) &&
+    && (not (list_any (λ term. has_term term row) (flat_map beside_placeholder rows)) &&
     list_any (λ (main : Row). is_total_by plan rows main && same_way row.path main.path) rows)))
 
 abbrev pub is_other : Plan → List Row → Row → Bool
@@ -410,7 +410,7 @@ abbrev pub left_out_in : Plan → List Row → List Term
 left_out_in plan rows = flat_map (λ row. flat_map terms_in (rows_there plan row)) (filter (is_other plan rows) rows) ++
     (unjoined_terms plan rows ++ unpaired_terms plan rows)
 
--- the terms that rows look at which end where rows end that aren't covered, those beside fillers that aren't told from
+-- the terms that rows look at which end where rows end that aren't covered, those beside placeholders that aren't told from
 -- values, and those of VAT totals in accounting currency whose rows aren't covered
 abbrev pub left_out : List Row → List Term
 left_out rows = left_out_in (plan_of rows) rows
@@ -454,7 +454,7 @@ has_currencies rows es = holds_none (accounting_terms rows) es || is_other_text 
 
 -- The entry isn't taken for something else, and nothing else for it.
 abbrev pub is_unmistaken : Plan → List Row → List Entry → Entry → Bool
-is_unmistaken plan rows es e = not (list_any (is_like_filler plan rows es e) rows) && (is_as_known (known_of rows) es e && not (is_bad_note rows es e))
+is_unmistaken plan rows es e = not (list_any (is_like_placeholder plan rows es e) rows) && (is_as_known (known_of rows) es e && not (is_bad_note rows es e))
 
 -- No term that is left out stands in the invoice, each of its values is read back, and such a row writes it; none is taken
 -- for something else.

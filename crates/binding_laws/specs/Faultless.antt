@@ -55,7 +55,7 @@ is_model forms.Model = true
 is_model forms.PlainDate = false
 is_model forms.DueDateTypeCode = false
 is_model forms.CodedNote = false
-is_model (forms.Typed letter) = false
+is_model (forms.Typed data_type) = false
 is_model forms.TypedPlainDate = false
 
 abbrev pub are_exclusive : Row → Row → Term → Bool

@@ -6,12 +6,12 @@ use Rattle.std.specs.List.{list_all, list_any}
 use Rattle.std.specs.Str.{bytes_eq}
 use Rattle.std.specs.Cmp.Lexicographic.{pointwise}
 use Rattle.term_table.specs.declared.groups.Group.{Group}
-use Rattle.term_table.specs.declared.terms.Letter.{Letter}
-use Rattle.term_table.specs.declared.terms.Letter.TheVariants as letters
+use Rattle.term_table.specs.declared.terms.DataType.{DataType}
+use Rattle.term_table.specs.declared.terms.DataType.TheVariants as data_types
 use Rattle.term_table.specs.declared.terms.Term.{Term}
 use Rattle.term_table.specs.Contexts.{slot_group, same_groups}
 use Rattle.term_table.specs.SemanticModel.{same_term}
-use Rattle.term_table.specs.Rows.{letter_of}
+use Rattle.term_table.specs.Rows.{data_type_of}
 use Rattle.inv_terms.specs.declared.entries.Entry.{Entry}
 use Rattle.inv_terms.specs.Values.{spelled}
 use Rattle.inv_terms.specs.Listing.{value_in}
@@ -29,8 +29,8 @@ use Rattle.binding_laws.specs.Apart.{is_called, is_attribute_named, Unlike, Toge
 use Rattle.binding_laws.specs.Plain.{is_element, stands_nowhere_else}
 
 -- Values of the type have no white space around them.
-abbrev pub is_trimmed : Option Letter → Bool
-is_trimmed letter = elim letter [ Some letters.I ↦ true | Some letters.C ↦ true | _ ↦ false ]
+abbrev pub is_trimmed : Option DataType → Bool
+is_trimmed data_type = elim data_type [ Some data_types.I ↦ true | Some data_types.C ↦ true | _ ↦ false ]
 
 -- ---- what guards ask of the attribute at the end of a path
 
@@ -99,7 +99,7 @@ abbrev pub at_attributes : {X : Type 0} → (Row → Term → List ℕ → List 
 at_attributes f row = elim row.content [
   | (contents.Term term) ↦ elim row.leaf [
     | leaves.Element ↦ []
-    | (leaves.Attribute local) ↦ elim (is_trimmed (letter_of term)) [ true ↦ f row term local | false ↦ [] ]
+    | (leaves.Attribute local) ↦ elim (is_trimmed (data_type_of term)) [ true ↦ f row term local | false ↦ [] ]
   ]
   | (contents.Constant text) ↦ []
 ]

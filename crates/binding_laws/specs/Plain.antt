@@ -69,7 +69,7 @@ is_whole forms.Model = true
 is_whole forms.PlainDate = true
 is_whole forms.DueDateTypeCode = false
 is_whole forms.CodedNote = false
-is_whole (forms.Typed letter) = true
+is_whole (forms.Typed data_type) = true
 is_whole forms.TypedPlainDate = true
 
 -- Whether it is written hangs on the value and on its scheme alone: nothing stands in its place, and no currency tells it
@@ -81,7 +81,7 @@ is_by_value written.IfIban = true
 is_by_value written.IfNotIban = true
 is_by_value written.IfScheme = true
 is_by_value written.IfNoScheme = true
-is_by_value (written.OrFiller filler) = false
+is_by_value (written.OrPlaceholder placeholder) = false
 is_by_value written.VatTotal = false
 is_by_value written.AccountingVatTotal = false
 
@@ -173,7 +173,7 @@ is_of_one_term forms.Model = true
 is_of_one_term forms.PlainDate = true
 is_of_one_term forms.DueDateTypeCode = true
 is_of_one_term forms.CodedNote = false
-is_of_one_term (forms.Typed letter) = false
+is_of_one_term (forms.Typed data_type) = false
 is_of_one_term forms.TypedPlainDate = false
 
 -- It is a plain row of the term at an attribute of the element that a plain row of another term writes, but for whether

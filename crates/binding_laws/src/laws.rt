@@ -15,15 +15,15 @@ ghost use Rattle.bind_rows.specs.declared.rows.Written.TheVariants as rules;
 ghost use Rattle.bind_rows.specs.Added.{is_typed};
 ghost use Rattle.std.specs.List.{list_all};
 ghost use Rattle.std.specs.Str.{bytes_eq};
-ghost use Rattle.bind_meaning.specs.Values.{said, form_for};
+ghost use Rattle.bind_meaning.specs.Values.{parsed, form_for};
 ghost use Rattle.bind_meaning.specs.Elements.{string_at, is_full, has_element_inside};
 ghost use Rattle.bind_meaning.specs.Picks.{has_term, nodes_picked};
 ghost use Rattle.bind_table.specs.WellFormed.{first_fault};
 ghost use Rattle.bind_meaning.specs.Currencies.{Currencies, currencies};
 ghost use Rattle.bind_meaning.specs.Seats.{Placed, context_of};
-ghost use Rattle.bind_meaning.specs.Judging.{Told, said_by, is_of_seat};
+ghost use Rattle.bind_meaning.specs.Judging.{Told, parsed_by, is_of_seat};
 ghost use Rattle.bind_meaning.specs.Terms.{passed_over, term_picks, place_all, told, entries, Read, terms_of};
-ghost use Rattle.bind_rows.specs.declared.tables.Which.{Which};
+ghost use Rattle.bind_rows.specs.declared.tables.DocumentType.{DocumentType};
 ghost use Rattle.bind_meaning.specs.Tables.{rows_of};
 ghost use Rattle.bind_meaning.specs.Trees.{document_of};
 ghost use Rattle.bind_meaning.specs.Writing.{formed};
@@ -81,7 +81,7 @@ pub fn rows_apart_without_terms_pick_what_is_written()
         stands_apart_without gone rows row.path ≡ true
         → filter (has_element_inside (document_nodes (document_of rows es)))
         (map (λ pick. pick.node) (nodes_picked (document_nodes (document_of rows es)) k row)) ≡ [] }
-    ensures totals { (table : Which) → list_all (λ row. not (has_term (record { number = 110; part = 0 }) row) ||
+    ensures totals { (table : DocumentType) → list_all (λ row. not (has_term (record { number = 110; part = 0 }) row) ||
         stands_apart_without (record { number = 111; part = 0 } ∷ []) (rows_of table) row.path) (rows_of table) ≡ true }
 {}
 
@@ -97,7 +97,7 @@ pub fn plain_rows_pick_the_values_of_their_terms()
         ≡ map (λ e. formed (form_for row.form term) es e.context e.value) (filter (λ e. same_term e.term term && is_written_by row term es e.context) es) }
     ensures says { (rows : List Row) (es : List Entry) (k : ℕ) (row : Row) (term : Term) → IsInvoice es → IsPlain rows row term
         → (is_extension term && not (is_typed (form_for row.form term))) ≡ false
-        → map (λ pick. said row.form term (string_at (document_nodes (document_of rows es)) pick.node))
+        → map (λ pick. parsed row.form term (string_at (document_nodes (document_of rows es)) pick.node))
         (nodes_picked (document_nodes (document_of rows es)) k row)
         ≡ map (λ e. record { term = term; value = Some e.value } ∷ []) (filter (λ e. same_term e.term term && is_written_by row term es e.context) es) }
     ensures always { (rows : List Row) (es : List Entry) (row : Row) (term : Term) → IsInvoice es → IsPlain rows row term → row.written ≡ rules.Always →
@@ -151,27 +151,27 @@ pub fn picks_say_the_entries_where_they_stand()
     ensures currency { (rows : List Row) (es : List Entry) → IsInvoice es → All (λ r. 0 < length r.path) rows → first_fault rows ≡ Ok tt →
         is_settled rows ≡ true → holds_plainly rows es ≡ true
         → are_own_currencies rows es (currencies (document_nodes (document_of rows es)) rows) ≡ true }
-    ensures said { (rows : List Row) (es : List Entry) (c : Currencies) (p : Placed) → IsInvoice es → All (λ r. 0 < length r.path) rows →
+    ensures parsed { (rows : List Row) (es : List Entry) (c : Currencies) (p : Placed) → IsInvoice es → All (λ r. 0 < length r.path) rows →
         first_fault rows ≡ Ok tt
         → is_settled rows ≡ true → holds_plainly rows es ≡ true → are_own_currencies rows es c ≡ true → holds_none (code_terms rows) es ≡ true
         → Contains (place_all (document_nodes (document_of rows es)) (term_picks (document_nodes (document_of rows es)) c rows)) p
-        → (e : Entry) × (Contains es e × ((said_by (document_nodes (document_of rows es)) p ≡ record { term = e.term; value = Some e.value } ∷ []) ×
+        → (e : Entry) × (Contains es e × ((parsed_by (document_nodes (document_of rows es)) p ≡ record { term = e.term; value = Some e.value } ∷ []) ×
         (context_of p ≡ e.context))) }
     ensures all { (rows : List Row) (es : List Entry) (c : Currencies) (e : Entry) → IsInvoice es → All (λ r. 0 < length r.path) rows → first_fault rows ≡ Ok tt
         → is_settled rows ≡ true → holds_plainly rows es ≡ true → are_own_currencies rows es c ≡ true → holds_none (code_terms rows) es ≡ true → Contains es e
         → (p : Placed) × (Contains (place_all (document_nodes (document_of rows es)) (term_picks (document_nodes (document_of rows es)) c rows)) p
-        × ((said_by (document_nodes (document_of rows es)) p ≡ record { term = e.term; value = Some e.value } ∷ []) × (context_of p ≡ e.context))) }
+        × ((parsed_by (document_nodes (document_of rows es)) p ≡ record { term = e.term; value = Some e.value } ∷ []) × (context_of p ≡ e.context))) }
     ensures told { (rows : List Row) (es : List Entry) (c : Currencies) (t : Told) → IsInvoice es → All (λ r. 0 < length r.path) rows → first_fault rows ≡ Ok tt
         → is_settled rows ≡ true → holds_plainly rows es ≡ true → are_own_currencies rows es c ≡ true
         → Contains (told (document_nodes (document_of rows es))
         (place_all (document_nodes (document_of rows es)) (term_picks (document_nodes (document_of rows es)) c rows))) t
-        → (e : Entry) × (Contains es e × ((t.said ≡ record { term = e.term; value = Some e.value }) × (context_of t.placed ≡ e.context))) }
+        → (e : Entry) × (Contains es e × ((t.parsed ≡ record { term = e.term; value = Some e.value }) × (context_of t.placed ≡ e.context))) }
     ensures all_told { (rows : List Row) (es : List Entry) (c : Currencies) (e : Entry) → IsInvoice es → All (λ r. 0 < length r.path) rows →
         first_fault rows ≡ Ok tt
         → is_settled rows ≡ true → holds_plainly rows es ≡ true → are_own_currencies rows es c ≡ true → Contains es e
         → (t : Told) × (Contains (told (document_nodes (document_of rows es))
         (place_all (document_nodes (document_of rows es)) (term_picks (document_nodes (document_of rows es)) c rows))) t
-        × ((t.said ≡ record { term = e.term; value = Some e.value }) × (context_of t.placed ≡ e.context))) }
+        × ((t.parsed ≡ record { term = e.term; value = Some e.value }) × (context_of t.placed ≡ e.context))) }
     ensures inside { (rows : List Row) (es : List Entry) (c : Currencies) (p : Placed) → IsInvoice es → All (λ r. 0 < length r.path) rows →
         first_fault rows ≡ Ok tt
         → is_settled rows ≡ true → holds_plainly rows es ≡ true → are_own_currencies rows es c ≡ true
@@ -184,7 +184,7 @@ pub fn picks_say_the_entries_where_they_stand()
         (place_all (document_nodes (document_of rows es)) (term_picks (document_nodes (document_of rows es)) c rows))) a
         → Contains (told (document_nodes (document_of rows es))
         (place_all (document_nodes (document_of rows es)) (term_picks (document_nodes (document_of rows es)) c rows))) b
-        → is_of_seat a b ≡ true → a.said ≡ b.said }
+        → is_of_seat a b ≡ true → a.parsed ≡ b.parsed }
 {
     spelled_values_are_read_back();
     printed_days_are_read();
@@ -241,7 +241,7 @@ pub fn invoices_of_covered_rows_are_converted_back()
 /// In each of the three tables: where covered rows write all values of a valid invoice, and it holds no term that the table
 /// leaves out, reading its document answers exactly that invoice, with nothing passed over.
 pub fn valid_invoices_are_read_exactly()
-    ensures { (table : Which) (es : List Entry) (lists : Lists) → IsInvoice es → IsValid es lists → holds_plainly (rows_of table) es ≡ true
+    ensures { (table : DocumentType) (es : List Entry) (lists : Lists) → IsInvoice es → IsValid es lists → holds_plainly (rows_of table) es ≡ true
         → terms_of (document_nodes (document_of (rows_of table) es)) (rows_of table) lists ≡ Ok (record { entries = es; passed_over = 0 }) }
 {
     spelled_values_are_read_back();
@@ -256,7 +256,7 @@ pub fn valid_invoices_are_read_exactly()
 /// that either leaves out, converting it to the one syntax, what is read of that to the other, and what is read of this
 /// back to the first, gives the first document again, and its terms; no reading finds a fault.
 pub fn valid_invoices_are_converted_back()
-    ensures { (first second : Which) (es : List Entry) (lists : Lists) → IsInvoice es → IsValid es lists → holds_plainly (rows_of first) es ≡ true →
+    ensures { (first second : DocumentType) (es : List Entry) (lists : Lists) → IsInvoice es → IsValid es lists → holds_plainly (rows_of first) es ≡ true →
         holds_plainly (rows_of second) es ≡ true
         → (read : Read) × ((terms_of (document_nodes (document_of (rows_of first) es)) (rows_of first) lists ≡ Ok read)
         × ((again : Read) × ((terms_of (document_nodes (document_of (rows_of second) read.entries)) (rows_of second) lists ≡ Ok again)
@@ -271,7 +271,7 @@ pub fn valid_invoices_are_converted_back()
 }
 
 /// How many rows with a term of each of the three tables are covered, which is to say plain or spread, at an element or an
-/// attribute, or spread but for a filler, or plain but for a subject code in front, or that of a VAT total, or told apart
+/// attribute, or spread but for a placeholder, or plain but for a subject code in front, or that of a VAT total, or told apart
 /// by values: all of them. The tables are settled and faultless, and leave no terms out. So that values tell rows apart, UBL
 /// asks that the scheme of BT-29 and that of BT-60 aren't `SEPA`, and that BT-29 has its scheme where it may have one; CII
 /// asks nothing.

@@ -4,7 +4,7 @@ use Rattle.std.specs.Prelude.{is_some, is_none}
 use Rattle.std.specs.List.{list_any}
 use Rattle.std.proofs.lemmas.Bool.{false≢true}
 use Rattle.term_table.specs.declared.groups.Group.{Group}
-use Rattle.term_table.specs.declared.terms.Letter.{Letter}
+use Rattle.term_table.specs.declared.terms.DataType.{DataType}
 use Rattle.term_table.specs.declared.terms.Term.{Term}
 use Rattle.term_table.specs.declared.contexts.Slot.{Slot}
 use Rattle.term_table.specs.SemanticModel.{same_term, is_extension}
@@ -20,7 +20,7 @@ use Rattle.bind_rows.specs.declared.rows.Form.{Form}
 use Rattle.bind_rows.specs.declared.rows.Form.TheVariants as forms
 use Rattle.bind_rows.specs.declared.rows.Row.{Row}
 use Rattle.bind_rows.specs.Same.{same_or_none}
-use Rattle.bind_rows.specs.Added.{letter_of_form, is_added}
+use Rattle.bind_rows.specs.Added.{data_type_of_form, is_added}
 use Rattle.bind_table.specs.Lines.{plan_of}
 use Rattle.bind_table.proofs.SameLemmas.{group-sound}
 use Rattle.bind_meaning.specs.Values.{form_for}
@@ -65,19 +65,19 @@ content-has term (contents.Constant text) h = absurd (false≢true h)
 
 -- a value of the type that the form says is written and read back
 says-own : (form : Form) (v : Value) → says_type form v ≡ true → of_form form v ≡ Some v
-says-own form v h = go (letter_of_form form) h
+says-own form v h = go (data_type_of_form form) h
   where
-    go : (o : Option Letter) → (elim o [ None ↦ false | Some letter ↦ is_of_type letter v ]) ≡ true
-        → ◌≡◌ {A = Option Value} (elim o [ None ↦ Some v | Some letter ↦ elim (is_of_type letter v) [ true ↦ Some v | false ↦ None ] ]) (Some v)
+    go : (o : Option DataType) → (elim o [ None ↦ false | Some data_type ↦ is_of_type data_type v ]) ≡ true
+        → ◌≡◌ {A = Option Value} (elim o [ None ↦ Some v | Some data_type ↦ elim (is_of_type data_type v) [ true ↦ Some v | false ↦ None ] ]) (Some v)
     go None k = absurd (false≢true k)
-    go (Some letter) k = ap (λ b. elim b [ true ↦ Some v | false ↦ None ]) k
+    go (Some data_type) k = ap (λ b. elim b [ true ↦ Some v | false ↦ None ]) k
 
 says-back : (form : Form) (v : Value) → says_type form v ≡ true → is_read_back form v ≡ true
 says-back forms.Model v h = absurd (false≢true h)
 says-back forms.PlainDate v h = absurd (false≢true h)
 says-back forms.DueDateTypeCode v h = absurd (false≢true h)
 says-back forms.CodedNote v h = absurd (false≢true h)
-says-back (forms.Typed letter) v h = h
+says-back (forms.Typed data_type) v h = h
 says-back forms.TypedPlainDate v h = h
 
 only-one : {X : Type 0} (one : List X → Bool) → one [] ≡ false → ((x y : X) (xs : List X) → one (x ∷ (y ∷ xs)) ≡ false) → (xs : List X) → one xs ≡ true →

@@ -10,11 +10,11 @@ use Rattle.inv_terms.specs.declared.entries.Entry.{Entry}
 use Rattle.inv_terms.specs.Listing.{value_in}
 use Rattle.inv_terms.specs.Values.{spelled}
 use Rattle.bind_rows.specs.declared.rows.Row.{Row}
-use Rattle.bind_rows.specs.declared.tables.Which.{Which}
+use Rattle.bind_rows.specs.declared.tables.DocumentType.{DocumentType}
 use Rattle.bind_rows.specs.Same.{choose}
 use Rattle.bind_carrying.specs.declared.carrying.NotCarried.{NotCarried}
-use Rattle.bind_carrying.specs.Tables.{which_of, is_ubl}
-use Rattle.bind_carrying.specs.Carrying.{bt, is_bt, stands, main_term, lacks_main, stands_alone, marks_creditor, is_filler, is_bad_note, has_image}
+use Rattle.bind_carrying.specs.Tables.{document_type_of, is_ubl}
+use Rattle.bind_carrying.specs.Carrying.{bt, is_bt, stands, main_term, lacks_main, stands_alone, marks_creditor, is_placeholder, is_bad_note, has_image}
 use Rattle.bind_carrying.specs.Carrying.{has_bad_code, lacks_means, has_no_currency, is_other_type, same_text, fails, all_conditions, first_at, first_term}
 use Rattle.bind_carrying.specs.Carrying.{told, first_failing, is_row_of, is_unplaced, first_unplaced, entries_fail, answer, is_too_large, entries_carried}
 use Rattle.bind_carrying.specs.Carrying.{carrying}
@@ -42,7 +42,8 @@ found-none p (y ∷ xs) h x a = go (λ k m. found-none p xs k x m) (p y) refl h 
     go later false e k (inl s) = ap p (sym s) ∙ e
     go later false e k (inr m) = later k m
 
-keeps-all : (conditions : List _) (table : Which) (es : List Entry) → first_failing conditions table es ≡ None → (condition : _) → Among condition conditions →
+keeps-all : (conditions : List _) (table : DocumentType) (es : List Entry) → first_failing conditions table es ≡ None → (condition : _)
+    → Among condition conditions →
     (e : Entry) → Among e es → fails condition table es e ≡ false
 keeps-all [] table es h condition c e a = absurd c
 keeps-all (first ∷ conditions) table es h condition c e a =
@@ -55,27 +56,29 @@ keeps-all (first ∷ conditions) table es h condition c e a =
     go later w (inr m) = later w.1 m
 
 keeps : (rows : List Row) (es : List Entry) → entries_fail rows es ≡ None → (condition : _) → Among condition all_conditions → (e : Entry) → Among e es →
-    fails condition (which_of rows) es e ≡ false
-keeps rows es h condition c e a = keeps-all all_conditions (which_of rows) es h condition c e a
+    fails condition (document_type_of rows) es e ≡ false
+keeps rows es h condition c e a = keeps-all all_conditions (document_type_of rows) es h condition c e a
 
 -- each by itself
 
-pub part-kept : (rows : List Row) (es : List Entry) → entries_fail rows es ≡ None → (e : Entry) → Among e es → stands_alone (which_of rows) es e ≡ false
+pub part-kept : (rows : List Row) (es : List Entry) → entries_fail rows es ≡ None → (e : Entry) → Among e es → stands_alone (document_type_of rows) es e ≡ false
 part-kept rows es h e a = let k = keeps rows es h _ (inl refl) e a in k
 
-pub creditor-kept : (rows : List Row) (es : List Entry) → entries_fail rows es ≡ None → (e : Entry) → Among e es → marks_creditor (which_of rows) e ≡ false
+pub creditor-kept : (rows : List Row) (es : List Entry) → entries_fail rows es ≡ None → (e : Entry) → Among e es → marks_creditor (document_type_of rows) e
+    ≡ false
 creditor-kept rows es h e a = let k = keeps rows es h _ (inr (inl refl)) e a in k
 
-pub filler-kept : (rows : List Row) (es : List Entry) → entries_fail rows es ≡ None → (e : Entry) → Among e es → is_filler (which_of rows) es e ≡ false
-filler-kept rows es h e a = let k = keeps rows es h _ (inr (inr (inl refl))) e a in k
+pub placeholder-kept : (rows : List Row) (es : List Entry) → entries_fail rows es ≡ None → (e : Entry) → Among e es
+    → is_placeholder (document_type_of rows) es e ≡ false
+placeholder-kept rows es h e a = let k = keeps rows es h _ (inr (inr (inl refl))) e a in k
 
-pub note-kept : (rows : List Row) (es : List Entry) → entries_fail rows es ≡ None → (e : Entry) → Among e es → is_bad_note (which_of rows) es e ≡ false
+pub note-kept : (rows : List Row) (es : List Entry) → entries_fail rows es ≡ None → (e : Entry) → Among e es → is_bad_note (document_type_of rows) es e ≡ false
 note-kept rows es h e a = let k = keeps rows es h _ (inr (inr (inr (inl refl)))) e a in k
 
-pub code-kept : (rows : List Row) (es : List Entry) → entries_fail rows es ≡ None → (e : Entry) → Among e es → has_bad_code (which_of rows) e ≡ false
+pub code-kept : (rows : List Row) (es : List Entry) → entries_fail rows es ≡ None → (e : Entry) → Among e es → has_bad_code (document_type_of rows) e ≡ false
 code-kept rows es h e a = let k = keeps rows es h _ (inr (inr (inr (inr (inl refl))))) e a in k
 
-pub means-kept : (rows : List Row) (es : List Entry) → entries_fail rows es ≡ None → (e : Entry) → Among e es → lacks_means (which_of rows) es e ≡ false
+pub means-kept : (rows : List Row) (es : List Entry) → entries_fail rows es ≡ None → (e : Entry) → Among e es → lacks_means (document_type_of rows) es e ≡ false
 means-kept rows es h e a = let k = keeps rows es h _ (inr (inr (inr (inr (inr (inl refl)))))) e a in k
 
 pub currency-kept : (rows : List Row) (es : List Entry) → entries_fail rows es ≡ None → (e : Entry) → Among e es → has_no_currency es e ≡ false
@@ -125,7 +128,7 @@ not-none None h = absurd (false≢true (sym h))
 not-none (Some x) h = refl
 
 pub main-stands : (rows : List Row) (es : List Entry) → entries_fail rows es ≡ None → (e : Entry) → Among e es → (main : Term) →
-    main_term (is_ubl (which_of rows)) e.term ≡ Some main → is_some (value_in es main e.context) ≡ true
+    main_term (is_ubl (document_type_of rows)) e.term ≡ Some main → is_some (value_in es main e.context) ≡ true
 main-stands rows es h e a main is =
     not-none (value_in es main e.context) (ap (lacks_main es e) (sym is) ∙ part-kept rows es h e a)
 
@@ -144,7 +147,7 @@ pub image-stands : (rows : List Row) (es : List Entry) → entries_fail rows es 
     has_image (spelled e.value) ≡ true
 image-stands rows es h e a is =
     and-not-false (is_bt 8 0 e.term) (has_image (spelled e.value))
-    (or-false (is_bt 3 0 e.term && is_other_type (which_of rows) (spelled e.value)) (is_bt 8 0 e.term && not (has_image (spelled e.value)))
+    (or-false (is_bt 3 0 e.term && is_other_type (document_type_of rows) (spelled e.value)) (is_bt 8 0 e.term && not (has_image (spelled e.value)))
     (code-kept rows es h e a)).1 is
 
 -- ---- 7: a VAT total in accounting currency stands beside both currencies

@@ -9,8 +9,8 @@ use Rattle.std.proofs.lemmas.Slice.Eq.{bytes_eq-Decides}
 use Rattle.inv_base.specs.Characters.{is_char}
 use Rattle.code_lists.specs.CodeFiles.{Lists}
 use Rattle.term_table.specs.declared.groups.Group.{Group}
-use Rattle.term_table.specs.declared.terms.Letter.{Letter}
-use Rattle.term_table.specs.declared.terms.Letter.TheVariants as letters
+use Rattle.term_table.specs.declared.terms.DataType.{DataType}
+use Rattle.term_table.specs.declared.terms.DataType.TheVariants as data_types
 use Rattle.term_table.specs.declared.terms.Term.{Term}
 use Rattle.term_table.specs.declared.terms.TermRow.{TermRow}
 use Rattle.term_table.specs.Rows.{HasType}
@@ -34,7 +34,7 @@ use Rattle.bind_meaning.specs.Values.{form_for}
 use Rattle.bind_meaning.specs.Picks.{term_in, has_term}
 use Rattle.bind_meaning.specs.Trees.{either}
 use Rattle.bind_carrying.specs.Carrying.{bt, is_bt, same_text, has_image, entries_fail, entries_carried}
-use Rattle.bind_carrying.specs.Tables.{which_of, is_ubl}
+use Rattle.bind_carrying.specs.Tables.{document_type_of, is_ubl}
 use Rattle.binding_laws.specs.Apart.{holds_none}
 use Rattle.binding_laws.specs.Known.{known_of}
 use Rattle.binding_laws.specs.Covered.{accounting_terms, is_other_text, is_imaged, is_read_back, reads_back, is_written_plainly_in, has_currencies}
@@ -54,24 +54,24 @@ use Rattle.carrying_laws.proofs.MistakenLemmas.{unmistaken}
 
 -- ---- a value of BT-8 is a code
 
-type-of-8 : (letter : Letter) → HasType (bt 8) letter → letter ≡ letters.C
+type-of-8 : (data_type : DataType) → HasType (bt 8) data_type → data_type ≡ data_types.C
 unfolding terms
-type-of-8 letter h = one-type (bt 8) letter letters.C h refl
+type-of-8 data_type h = one-type (bt 8) data_type data_types.C h refl
 
 code-by : (o : Option (List ℕ)) (v : Value) → option_map values.Code o ≡ Some v → (code : List ℕ) × (v ≡ values.Code code)
 code-by None v h = absurd (false≢true (ap is_some h))
 code-by (Some code) v h = (code, sym (same_Some _ _ h))
 
-code-if : (b : Bool) (text : List ℕ) (v : Value) → (if b then value_by letters.C text else None) ≡ Some v → (code : List ℕ) × (v ≡ values.Code code)
+code-if : (b : Bool) (text : List ℕ) (v : Value) → (if b then value_by data_types.C text else None) ≡ Some v → (code : List ℕ) × (v ≡ values.Code code)
 code-if true text v h = code-by (code_of text) v h
 code-if false text v h = absurd (false≢true (ap is_some h))
 
-code-value : (text : List ℕ) (v : Value) → value_of letters.C text ≡ Some v → (code : List ℕ) × (v ≡ values.Code code)
+code-value : (text : List ℕ) (v : Value) → value_of data_types.C text ≡ Some v → (code : List ℕ) × (v ≡ values.Code code)
 unfolding value_of
 code-value text v h = code-if (list_all is_char text) text v h
 
 code-of-8 : (v : Value) → Fits (bt 8) v → (code : List ℕ) × (v ≡ values.Code code)
-code-of-8 v f = code-value f.text v (ap (λ l. value_of l f.text) (sym (type-of-8 f.letter f.typed)) ∙ f.read)
+code-of-8 v f = code-value f.text v (ap (λ l. value_of l f.text) (sym (type-of-8 f.data_type f.typed)) ∙ f.read)
 
 or-last : (b : Bool) → (b || false) ≡ b
 or-last true = refl
@@ -88,7 +88,7 @@ module _ (rows : List Row) (complete : is_complete rows ≡ true) (es : List Ent
   keeps = entries-keep rows es carried
 
   abbrev ubl : Bool
-  ubl = is_ubl (which_of rows)
+  ubl = is_ubl (document_type_of rows)
 
   abbrev left : List Term
   left = left_out rows
@@ -199,7 +199,7 @@ module _ (rows : List Row) (complete : is_complete rows ≡ true) (es : List Ent
         let code = code-of-8 e.value (subst (λ t. Fits t e.value) term (model.all-holds (λ (x : Entry). Fits x.term x.value) e es invoice.fit known)) in
         ap is_imaged code.1 ∙ (image-by-code code.0 ∙ (ap (λ v. has_image (spelled v)) (sym code.1) ∙ image-stands rows es keeps e known h))
     form-reads forms.CodedNote h = refl
-    form-reads (forms.Typed letter) h = absurd (false≢true (sym of_model ∙ h))
+    form-reads (forms.Typed data_type) h = absurd (false≢true (sym of_model ∙ h))
     form-reads forms.TypedPlainDate h = absurd (false≢true (sym of_model ∙ h))
 
     row-reads : (row : Row) → Among row rows → (not (has_term e.term row) || is_read_back (form_for row.form e.term) e.value) ≡ true

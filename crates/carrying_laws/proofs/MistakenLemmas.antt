@@ -16,7 +16,7 @@ use Rattle.inv_terms.specs.Values.{is_blank, spelled}
 use Rattle.inv_terms.specs.Whole.{IsValid}
 use Rattle.bind_rows.specs.declared.rows.Content.{Content}
 use Rattle.bind_rows.specs.declared.rows.Content.TheVariants as contents
-use Rattle.bind_rows.specs.declared.rows.Filler.{Filler}
+use Rattle.bind_rows.specs.declared.rows.Placeholder.{Placeholder}
 use Rattle.bind_rows.specs.declared.rows.Row.{Row}
 use Rattle.bind_rows.specs.declared.rows.Written.{Written}
 use Rattle.bind_rows.specs.declared.rows.Written.TheVariants as written
@@ -25,19 +25,20 @@ use Rattle.bind_meaning.specs.Picks.{term_in, has_term}
 use Rattle.bind_meaning.specs.Values.{subject_code, note, is_subject_character}
 use Rattle.bind_carrying.specs.Carrying as carried
 use Rattle.bind_carrying.specs.Carrying.{bt, is_bt, stands, entries_fail}
-use Rattle.bind_carrying.specs.Tables.{which_of, is_ubl}
+use Rattle.bind_carrying.specs.Tables.{document_type_of, is_ubl}
 use Rattle.binding_laws.specs.Apart.{Unlike, Together}
 use Rattle.binding_laws.specs.Known.{known_of, is_other_value, has_parts, is_as_known}
 use Rattle.binding_laws.specs.Plain.{stands_there}
 use Rattle.binding_laws.specs.Covered as covered
-use Rattle.binding_laws.specs.Covered.{is_joined, is_like_filler, is_coded_row, is_misread_note, is_bad_note, is_unmistaken}
+use Rattle.binding_laws.specs.Covered.{is_joined, is_like_placeholder, is_coded_row, is_misread_note, is_bad_note, is_unmistaken}
 use Rattle.binding_laws.proofs.PlainLemmas.{groups-are}
 use Rattle.binding_laws.proofs.ReachLemmas.{Among}
 use Rattle.binding_laws.proofs.ListLemmas.{both-true, not-true}
-use Rattle.carrying_laws.specs.Complete.{stands_with, is_kept_filler, keeps_filler, is_kept_unlike, keeps_together_at, keeps_together, keeps_known, keeps_notes}
+use Rattle.carrying_laws.specs.Complete.{stands_with, is_kept_placeholder, keeps_placeholder, is_kept_unlike, keeps_together_at, keeps_together, keeps_known}
+use Rattle.carrying_laws.specs.Complete.{keeps_notes}
 use Rattle.carrying_laws.specs.Complete.{mistakes_none}
 use Rattle.carrying_laws.proofs.Disjuncts.{either-or, or-first, or-second, or-either, and-true}
-use Rattle.carrying_laws.proofs.ConditionLemmas.{and-false, creditor-kept, filler-kept, note-kept}
+use Rattle.carrying_laws.proofs.ConditionLemmas.{and-false, creditor-kept, placeholder-kept, note-kept}
 use Rattle.carrying_laws.proofs.ModelLemmas.{all-each, each-all, IsModelled, modelled}
 use Rattle.carrying_laws.proofs.WrittenLemmas.{main-here}
 
@@ -93,53 +94,58 @@ in-root e p h =
 module _ (plan : Plan) (rows : List Row) (es : List Entry) (keeps : entries_fail rows es ≡ None) (lists : Lists) (valid : IsValid es lists) (e : Entry)
     (known : Among e es) (placed : is_placed e ≡ true) where
   abbrev ubl : Bool
-  ubl = is_ubl (which_of rows)
+  ubl = is_ubl (document_type_of rows)
 
-  -- ---- 3: fillers
+  -- ---- 3: placeholders
 
-  stands-as : (filler : Filler) → same_term filler.beside (bt 14) ≡ true → e.context ≡ root_context →
-      is_some (value_in es filler.beside e.context) ≡ stands es 14
-  stands-as filler h root = ap (λ t. is_some (value_in es t e.context)) (same_term_is filler.beside (bt 14) h) ∙ ap (λ c. is_some (value_in es (bt 14) c)) root
+  stands-as : (placeholder : Placeholder) → same_term placeholder.beside (bt 14) ≡ true → e.context ≡ root_context →
+      is_some (value_in es placeholder.beside e.context) ≡ stands es 14
+  stands-as placeholder h root = ap (λ t. is_some (value_in es t e.context)) (same_term_is placeholder.beside (bt 14) h)
+      ∙ ap (λ c. is_some (value_in es (bt 14) c)) root
 
-  text-as : (filler : Filler) → bytes_eq filler.text (codes "NA") ≡ true → bytes_eq filler.text (spelled e.value) ≡ bytes_eq (codes "NA") (spelled e.value)
-  text-as filler h = ap (λ text. bytes_eq text (spelled e.value)) ((bytes_eq-Decides filler.text (codes "NA")).0 h)
+  text-as : (placeholder : Placeholder) → bytes_eq placeholder.text (codes "NA") ≡ true → bytes_eq placeholder.text (spelled e.value)
+      ≡ bytes_eq (codes "NA") (spelled e.value)
+  text-as placeholder h = ap (λ text. bytes_eq text (spelled e.value)) ((bytes_eq-Decides placeholder.text (codes "NA")).0 h)
 
-  unfilled : (filler : Filler) → is_kept_filler ubl e.term filler ≡ true →
-      (bytes_eq filler.text (spelled e.value) && is_some (value_in es filler.beside e.context)) ≡ false
-  unfilled filler h =
-      let w = both-true ubl ((is_bt 13 0 e.term && (bytes_eq filler.text (codes "NA") && same_term filler.beside (bt 14))) &&
+  unfilled : (placeholder : Placeholder) → is_kept_placeholder ubl e.term placeholder ≡ true →
+      (bytes_eq placeholder.text (spelled e.value) && is_some (value_in es placeholder.beside e.context)) ≡ false
+  unfilled placeholder h =
+      let w = both-true ubl ((is_bt 13 0 e.term && (bytes_eq placeholder.text (codes "NA") && same_term placeholder.beside (bt 14))) &&
       stands_there e.term None None) h in
-      let v = both-true (is_bt 13 0 e.term && (bytes_eq filler.text (codes "NA") && same_term filler.beside (bt 14))) (stands_there e.term None None) w.1 in
-      let u = both-true (is_bt 13 0 e.term) (bytes_eq filler.text (codes "NA") && same_term filler.beside (bt 14)) v.0 in
-      let t = both-true (bytes_eq filler.text (codes "NA")) (same_term filler.beside (bt 14)) u.1 in
-      ap (λ x. x && is_some (value_in es filler.beside e.context)) (text-as filler t.0)
-      ∙ (ap (λ x. bytes_eq (codes "NA") (spelled e.value) && x) (stands-as filler t.1 (in-root e placed v.1))
+      let v = both-true (is_bt 13 0 e.term && (bytes_eq placeholder.text (codes "NA") && same_term placeholder.beside (bt 14))) (stands_there e.term None
+          None) w.1 in
+      let u = both-true (is_bt 13 0 e.term) (bytes_eq placeholder.text (codes "NA") && same_term placeholder.beside (bt 14)) v.0 in
+      let t = both-true (bytes_eq placeholder.text (codes "NA")) (same_term placeholder.beside (bt 14)) u.1 in
+      ap (λ x. x && is_some (value_in es placeholder.beside e.context)) (text-as placeholder t.0)
+      ∙ (ap (λ x. bytes_eq (codes "NA") (spelled e.value) && x) (stands-as placeholder t.1 (in-root e placed v.1))
       ∙ and-false (is_bt 13 0 e.term) (bytes_eq (codes "NA") (spelled e.value) && stands es 14)
-      (and-false ubl (is_bt 13 0 e.term && (bytes_eq (codes "NA") (spelled e.value) && stands es 14)) (filler-kept rows es keeps e known) w.0) u.0)
+      (and-false ubl (is_bt 13 0 e.term && (bytes_eq (codes "NA") (spelled e.value) && stands es 14)) (placeholder-kept rows es keeps e known) w.0) u.0)
 
-  own-filler : (row : Row) (filler : Filler) (content : Content) → row.content ≡ content →
-      (elim content [ (contents.Term term) ↦ is_kept_filler ubl term filler | (contents.Constant text) ↦ true ]) ≡ true
-      → (has_term e.term row && (bytes_eq filler.text (spelled e.value) && is_some (value_in es filler.beside e.context))) ≡ false
-  own-filler row filler (contents.Constant text) is h =
+  own-placeholder : (row : Row) (placeholder : Placeholder) (content : Content) → row.content ≡ content →
+      (elim content [ (contents.Term term) ↦ is_kept_placeholder ubl term placeholder | (contents.Constant text) ↦ true ]) ≡ true
+      → (has_term e.term row && (bytes_eq placeholder.text (spelled e.value) && is_some (value_in es placeholder.beside e.context))) ≡ false
+  own-placeholder row placeholder (contents.Constant text) is h =
       ap (λ (x : Content). (elim (term_in x) [ None ↦ false | Some t ↦ same_term t e.term ]) &&
-      (bytes_eq filler.text (spelled e.value) && is_some (value_in es filler.beside e.context))) is
-  own-filler row filler (contents.Term term) is h =
+      (bytes_eq placeholder.text (spelled e.value) && is_some (value_in es placeholder.beside e.context))) is
+  own-placeholder row placeholder (contents.Term term) is h =
       ap (λ (x : Content). (elim (term_in x) [ None ↦ false | Some t ↦ same_term t e.term ]) &&
-      (bytes_eq filler.text (spelled e.value) && is_some (value_in es filler.beside e.context))) is
+      (bytes_eq placeholder.text (spelled e.value) && is_some (value_in es placeholder.beside e.context))) is
       ∙ go (same_term term e.term) refl
     where
-      go : (b : Bool) → same_term term e.term ≡ b → (b && (bytes_eq filler.text (spelled e.value) && is_some (value_in es filler.beside e.context))) ≡ false
+      go : (b : Bool) → same_term term e.term ≡ b → (b && (bytes_eq placeholder.text (spelled e.value) && is_some (value_in es placeholder.beside e.context)))
+          ≡ false
       go false same = refl
-      go true same = unfilled filler (subst (λ t. is_kept_filler ubl t filler ≡ true) (same_term_is term e.term same) h)
+      go true same = unfilled placeholder (subst (λ t. is_kept_placeholder ubl t placeholder ≡ true) (same_term_is term e.term same) h)
 
   by-rule : (row : Row) (rule : Written) →
       (elim rule [
-        | (written.OrFiller filler) ↦ elim row.content [ (contents.Term term) ↦ is_kept_filler ubl term filler | (contents.Constant text) ↦ true ]
+        | (written.OrPlaceholder placeholder) ↦ elim row.content [ (contents.Term term) ↦ is_kept_placeholder ubl term placeholder | (contents.Constant text)
+            ↦ true ]
         | _ ↦ true
       ]) ≡ true
       → (elim rule [
-        | (written.OrFiller filler) ↦ is_joined plan rows row &&
-            (has_term e.term row && (bytes_eq filler.text (spelled e.value) && is_some (value_in es filler.beside e.context)))
+        | (written.OrPlaceholder placeholder) ↦ is_joined plan rows row &&
+            (has_term e.term row && (bytes_eq placeholder.text (spelled e.value) && is_some (value_in es placeholder.beside e.context)))
         | _ ↦ false
       ]) ≡ false
   by-rule row written.Always h = refl
@@ -148,12 +154,12 @@ module _ (plan : Plan) (rows : List Row) (es : List Entry) (keeps : entries_fail
   by-rule row written.IfNotIban h = refl
   by-rule row written.IfScheme h = refl
   by-rule row written.IfNoScheme h = refl
-  by-rule row (written.OrFiller filler) h = and-last (is_joined plan rows row) _ (own-filler row filler row.content refl h)
+  by-rule row (written.OrPlaceholder placeholder) h = and-last (is_joined plan rows row) _ (own-placeholder row placeholder row.content refl h)
   by-rule row written.VatTotal h = refl
   by-rule row written.AccountingVatTotal h = refl
 
-  no-filler : (row : Row) → keeps_filler ubl row ≡ true → is_like_filler plan rows es e row ≡ false
-  no-filler row h = by-rule row row.written h
+  no-placeholder : (row : Row) → keeps_placeholder ubl row ≡ true → is_like_placeholder plan rows es e row ≡ false
+  no-placeholder row h = by-rule row row.written h
 
   -- ---- 2: texts that are no values
 
@@ -231,8 +237,8 @@ module _ (plan : Plan) (rows : List Row) (es : List Entry) (keeps : entries_fail
 
   pub unmistaken : mistakes_none (known_of rows) rows ubl ≡ true → is_unmistaken plan rows es e ≡ true
   unmistaken h =
-      let w = both-true (list_all (keeps_filler ubl) rows) (keeps_known (known_of rows) ubl && keeps_notes rows ubl) h in
+      let w = both-true (list_all (keeps_placeholder ubl) rows) (keeps_known (known_of rows) ubl && keeps_notes rows ubl) h in
       let v = both-true (keeps_known (known_of rows) ubl) (keeps_notes rows ubl) w.1 in
-      and-true (not (list_any (is_like_filler plan rows es e) rows)) (is_as_known (known_of rows) es e && not (is_bad_note rows es e))
-      (ap not (any-none (is_like_filler plan rows es e) rows (λ row a. no-filler row (all-each (keeps_filler ubl) rows w.0 row a))))
+      and-true (not (list_any (is_like_placeholder plan rows es e) rows)) (is_as_known (known_of rows) es e && not (is_bad_note rows es e))
+      (ap not (any-none (is_like_placeholder plan rows es e) rows (λ row a. no-placeholder row (all-each (keeps_placeholder ubl) rows w.0 row a))))
       (and-true (is_as_known (known_of rows) es e) (not (is_bad_note rows es e)) (as-known v.0) (ap not (no-note v.1)))

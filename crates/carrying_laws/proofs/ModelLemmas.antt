@@ -10,7 +10,7 @@ use Rattle.std.proofs.lemmas.List.Quantifiers.{position-Some}
 use Rattle.code_lists.specs.CodeFiles.{Lists}
 use Rattle.term_table.specs.declared.groups.Group.{Group}
 use Rattle.term_table.specs.declared.groups.Group.TheVariants as groups
-use Rattle.term_table.specs.declared.terms.Letter.TheVariants as letters
+use Rattle.term_table.specs.declared.terms.DataType.TheVariants as data_types
 use Rattle.term_table.specs.declared.terms.Mark.{Mark}
 use Rattle.term_table.specs.declared.terms.Mark.TheVariants as marks
 use Rattle.term_table.specs.declared.terms.Term.{Term}
@@ -137,7 +137,7 @@ modelled e own p =
     let o : Option Group = slot_group e.context.outer in
     let i : Option Group = slot_group e.context.inner in
     let n = some-number (row_of e.term e.context) e.context p in
-    let d : TermRow = record { term = e.term; group = groups.Root; letter = letters.T; mark = marks.One; list = None } in
+    let d : TermRow = record { term = e.term; group = groups.Root; data_type = data_types.T; mark = marks.One; list = None } in
     let at = position-Some (is_row_in e.term o i) terms n.0 d (modelled-row_is e.term o i own ∙ n.1) in
     let r : TermRow = get_or terms n.0 d in
     let is = both-true (same_term r.term e.term) (stands_in r.group o i) at.1 in

@@ -8,8 +8,8 @@ use Rattle.term_table.specs.SemanticModel.{same_term, is_extension}
 use Rattle.inv_terms.specs.declared.entries.Entry.{Entry}
 use Rattle.inv_terms.specs.Listing.{IsInvoice}
 use Rattle.inv_terms.specs.Whole.{IsValid}
-use Rattle.bind_rows.specs.declared.tables.Which.{Which}
-use Rattle.bind_rows.specs.declared.tables.Which.TheVariants as which
+use Rattle.bind_rows.specs.declared.tables.DocumentType.{DocumentType}
+use Rattle.bind_rows.specs.declared.tables.DocumentType.TheVariants as document_type
 use Rattle.bind_meaning.specs.Tables.{rows_of}
 use Rattle.bind_rows.specs.declared.rows.Row.{Row}
 use Rattle.bind_rows.specs.Added.{is_added}
@@ -25,20 +25,20 @@ use Rattle.carrying_laws.proofs.HeldLemmas.{held}
 use Rattle.carrying_laws.proofs.Computed.{complete-invoice, complete-credit_note, complete-cii, left-invoice, left-credit_note, left-cii, unadded-invoice}
 use Rattle.carrying_laws.proofs.Computed.{unadded-credit_note, unadded-cii}
 
-pub tables-complete : (table : Which) → is_complete (rows_of table) ≡ true
-tables-complete which.Invoice = complete-invoice
-tables-complete which.CreditNote = complete-credit_note
-tables-complete which.Cii = complete-cii
+pub tables-complete : (table : DocumentType) → is_complete (rows_of table) ≡ true
+tables-complete document_type.Invoice = complete-invoice
+tables-complete document_type.CreditNote = complete-credit_note
+tables-complete document_type.Cii = complete-cii
 
-tables-unadded : (table : Which) → list_any is_added (rows_of table) ≡ false
-tables-unadded which.Invoice = unadded-invoice
-tables-unadded which.CreditNote = unadded-credit_note
-tables-unadded which.Cii = unadded-cii
+tables-unadded : (table : DocumentType) → list_any is_added (rows_of table) ≡ false
+tables-unadded document_type.Invoice = unadded-invoice
+tables-unadded document_type.CreditNote = unadded-credit_note
+tables-unadded document_type.Cii = unadded-cii
 
-pub tables-left : (table : Which) → left_out (rows_of table) ≡ []
-tables-left which.Invoice = left-invoice
-tables-left which.CreditNote = left-credit_note
-tables-left which.Cii = left-cii
+pub tables-left : (table : DocumentType) → left_out (rows_of table) ≡ []
+tables-left document_type.Invoice = left-invoice
+tables-left document_type.CreditNote = left-credit_note
+tables-left document_type.Cii = left-cii
 
 -- no row of the three tables was added, so each term that they carry is one of the semantic model
 none-added : (rows : List Row) → list_any is_added rows ≡ false → (e : Entry) → list_any (is_row_of e) rows ≡ false
@@ -51,7 +51,7 @@ none-added (row ∷ rows) h e = go (λ l. none-added rows l e) (is_added row) re
     go later false k l =
         ap (λ b. (b && (has_term e.term row && (has_groups row e.context && says_type row.form e.value))) || list_any (is_row_of e) rows) k ∙ later l
 
-pub tables-keep : (table : Which) (es : List Entry) → entries_carried (rows_of table) es ≡ Ok tt → (e : Entry) → Among e es → is_extension e.term ≡ false
+pub tables-keep : (table : DocumentType) (es : List Entry) → entries_carried (rows_of table) es ≡ Ok tt → (e : Entry) → Among e es → is_extension e.term ≡ false
 tables-keep table es carried e a = go (is_extension e.term) refl
   where
     go : (b : Bool) → is_extension e.term ≡ b → b ≡ false
@@ -59,9 +59,9 @@ tables-keep table es carried e a = go (is_extension e.term) refl
     go true own = absurd (false≢true (sym (none-added (rows_of table) (tables-unadded table) e) ∙
         added-kept (rows_of table) e (row-kept (rows_of table) es carried e a) own))
 
-none-left : (table : Which) (es : List Entry) → holds_none (left_out (rows_of table)) es ≡ true
+none-left : (table : DocumentType) (es : List Entry) → holds_none (left_out (rows_of table)) es ≡ true
 none-left table es = ap (λ left. holds_none left es) (tables-left table) ∙ each-all (λ (e : Entry). not (list_any (same_term e.term) [])) es (λ e a. refl)
 
-pub tables-hold : (table : Which) (es : List Entry) (lists : Lists) → IsInvoice es → IsValid es lists → entries_carried (rows_of table) es ≡ Ok tt →
+pub tables-hold : (table : DocumentType) (es : List Entry) (lists : Lists) → IsInvoice es → IsValid es lists → entries_carried (rows_of table) es ≡ Ok tt →
     holds_plainly (rows_of table) es ≡ true
 tables-hold table es lists invoice valid carried = held (rows_of table) (tables-complete table) es lists invoice valid carried (none-left table es)

@@ -15,11 +15,11 @@ use Rattle.inv_decimal.specs.WrittenDay.{day_from, read_dashed_day, read_plain_d
 use Rattle.code_lists.specs.CodeFiles.{built_in_lists}
 use Rattle.term_table.specs.declared.groups.Group.{Group}
 use Rattle.term_table.specs.declared.groups.Group.TheVariants as groups
-use Rattle.term_table.specs.declared.terms.Letter.{Letter}
+use Rattle.term_table.specs.declared.terms.DataType.{DataType}
 use Rattle.term_table.specs.declared.terms.Term.{Term}
 use Rattle.term_table.specs.declared.contexts.Context.{Context}
 use Rattle.term_table.specs.SemanticModel.{terms, extension_rows, listing_rows}
-use Rattle.term_table.specs.Rows.{modelled, letter_of}
+use Rattle.term_table.specs.Rows.{modelled, data_type_of}
 use Rattle.term_table.specs.Groups.{parent_of, occurrence_of}
 use Rattle.term_table.specs.Places.{first_row}
 use Rattle.term_table.specs.Contexts.{root_context}
@@ -92,16 +92,16 @@ some-from None h = absurd (false≢true h)
 some-from (Some v) h = refl
 
 fits-given : (g : Given) → is_some (by_type g.term g.text) ≡ true → Fits g.term (value_from (by_type g.term g.text))
-fits-given g h = go (letter_of g.term) refl h
+fits-given g h = go (data_type_of g.term) refl h
   where
-    go : (o : Option Letter) → letter_of g.term ≡ o → is_some (option_and_then (λ letter. value_of letter g.text) o) ≡ true →
+    go : (o : Option DataType) → data_type_of g.term ≡ o → is_some (option_and_then (λ data_type. value_of data_type g.text) o) ≡ true →
         Fits g.term (value_from (by_type g.term g.text))
     go None e k = absurd (false≢true k)
-    go (Some letter) e k = record {
-      letter = letter;
+    go (Some data_type) e k = record {
+      data_type = data_type;
       text = g.text;
       typed = modelled e;
-      read = some-from (value_of letter g.text) k ∙ ap (λ o. Some (value_from (option_and_then (λ l. value_of l g.text) o))) (sym e);
+      read = some-from (value_of data_type g.text) k ∙ ap (λ o. Some (value_from (option_and_then (λ l. value_of l g.text) o))) (sym e);
     }
 
 fits-all : (gs : List Given) → list_all (λ (g : Given). is_some (by_type g.term g.text)) gs ≡ true → All (λ (e : Entry). Fits e.term e.value) (map entry_of gs)

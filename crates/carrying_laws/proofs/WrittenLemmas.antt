@@ -36,7 +36,7 @@ use Rattle.binding_laws.specs.Plain.{has_content, is_in_groups, is_written_by}
 use Rattle.binding_laws.specs.Covered.{is_noted_in, is_written_plainly_in}
 use Rattle.binding_laws.specs.Faultless.{is_if_scheme, is_model}
 use Rattle.bind_carrying.specs.Carrying.{bt, is_bt, is_first_part, is_part, main_term, entries_fail}
-use Rattle.bind_carrying.specs.Tables.{which_of, is_ubl}
+use Rattle.bind_carrying.specs.Tables.{document_type_of, is_ubl}
 use Rattle.binding_laws.proofs.ReachLemmas.{Among}
 use Rattle.binding_laws.proofs.ListLemmas.{both-true, not-true}
 use Rattle.binding_laws.proofs.FormLemmas.{modelled-untyped}
@@ -99,7 +99,7 @@ all-due written.IfIban h es term c text = absurd (false≢true h)
 all-due written.IfNotIban h es term c text = absurd (false≢true h)
 all-due written.IfScheme h es term c text = absurd (false≢true h)
 all-due written.IfNoScheme h es term c text = absurd (false≢true h)
-all-due (written.OrFiller filler) h es term c text = refl
+all-due (written.OrPlaceholder placeholder) h es term c text = refl
 all-due written.VatTotal h es term c text = refl
 all-due written.AccountingVatTotal h es term c text = refl
 
@@ -113,7 +113,7 @@ iban-rule written.Never h = absurd (false≢true h)
 iban-rule written.IfNotIban h = absurd (false≢true h)
 iban-rule written.IfScheme h = absurd (false≢true h)
 iban-rule written.IfNoScheme h = absurd (false≢true h)
-iban-rule (written.OrFiller filler) h = absurd (false≢true h)
+iban-rule (written.OrPlaceholder placeholder) h = absurd (false≢true h)
 iban-rule written.VatTotal h = absurd (false≢true h)
 iban-rule written.AccountingVatTotal h = absurd (false≢true h)
 
@@ -124,7 +124,7 @@ not-iban-rule written.Never h = absurd (false≢true h)
 not-iban-rule written.IfIban h = absurd (false≢true h)
 not-iban-rule written.IfScheme h = absurd (false≢true h)
 not-iban-rule written.IfNoScheme h = absurd (false≢true h)
-not-iban-rule (written.OrFiller filler) h = absurd (false≢true h)
+not-iban-rule (written.OrPlaceholder placeholder) h = absurd (false≢true h)
 not-iban-rule written.VatTotal h = absurd (false≢true h)
 not-iban-rule written.AccountingVatTotal h = absurd (false≢true h)
 
@@ -135,7 +135,7 @@ scheme-rule written.Never h = absurd (false≢true h)
 scheme-rule written.IfIban h = absurd (false≢true h)
 scheme-rule written.IfNotIban h = absurd (false≢true h)
 scheme-rule written.IfNoScheme h = absurd (false≢true h)
-scheme-rule (written.OrFiller filler) h = absurd (false≢true h)
+scheme-rule (written.OrPlaceholder placeholder) h = absurd (false≢true h)
 scheme-rule written.VatTotal h = absurd (false≢true h)
 scheme-rule written.AccountingVatTotal h = absurd (false≢true h)
 
@@ -146,7 +146,7 @@ no-scheme-rule written.Never h = absurd (false≢true h)
 no-scheme-rule written.IfIban h = absurd (false≢true h)
 no-scheme-rule written.IfNotIban h = absurd (false≢true h)
 no-scheme-rule written.IfScheme h = absurd (false≢true h)
-no-scheme-rule (written.OrFiller filler) h = absurd (false≢true h)
+no-scheme-rule (written.OrPlaceholder placeholder) h = absurd (false≢true h)
 no-scheme-rule written.VatTotal h = absurd (false≢true h)
 no-scheme-rule written.AccountingVatTotal h = absurd (false≢true h)
 
@@ -155,7 +155,7 @@ as-modelled forms.Model h = refl
 as-modelled forms.PlainDate h = absurd (false≢true h)
 as-modelled forms.DueDateTypeCode h = absurd (false≢true h)
 as-modelled forms.CodedNote h = absurd (false≢true h)
-as-modelled (forms.Typed letter) h = absurd (false≢true h)
+as-modelled (forms.Typed data_type) h = absurd (false≢true h)
 as-modelled forms.TypedPlainDate h = absurd (false≢true h)
 
 term-content : (content : Content) (term : Term) → has_content term content ≡ true → content ≡ contents.Term term
@@ -348,17 +348,18 @@ module _ (plan : Plan) (rows : List Row) (es : List Entry) (e : Entry) (known : 
       go (Some t) is k = is ∙ ap Some (same_term_is t main k)
 
   module _ (keeps : entries_fail rows es ≡ None) (lists : Lists) (valid : IsValid es lists) where
-    pub main-here : (main : Term) → stands_with (is_ubl (which_of rows)) e.term outer inner main ≡ true → is_some (value_in es main e.context) ≡ true
-    main-here main h = go (either-or (is_own_main (is_ubl (which_of rows)) e.term main) (λ _. is_mandatory main outer inner) h)
+    pub main-here : (main : Term) → stands_with (is_ubl (document_type_of rows)) e.term outer inner main ≡ true → is_some (value_in es main e.context) ≡ true
+    main-here main h = go (either-or (is_own_main (is_ubl (document_type_of rows)) e.term main) (λ _. is_mandatory main outer inner) h)
       where
-        go : (is_own_main (is_ubl (which_of rows)) e.term main ≡ true) ⊎ (is_mandatory main outer inner ≡ true) → is_some (value_in es main e.context) ≡ true
-        go (inl a) = main-stands rows es keeps e known main (own-main (is_ubl (which_of rows)) main a)
+        go : (is_own_main (is_ubl (document_type_of rows)) e.term main ≡ true) ⊎ (is_mandatory main outer inner ≡ true) → is_some (value_in es main e.context)
+            ≡ true
+        go (inl a) = main-stands rows es keeps e known main (own-main (is_ubl (document_type_of rows)) main a)
         go (inr b) = mandatory-stands es lists valid e known main b
 
     by-main : (row main : Row) (term : Term) → Among row rows → Among main rows → main.content ≡ contents.Term term →
-        is_main plan (known_of rows) (is_ubl (which_of rows)) e.term outer inner row main term ≡ true → is_written_plainly_in plan rows es e ≡ true
+        is_main plan (known_of rows) (is_ubl (document_type_of rows)) e.term outer inner row main term ≡ true → is_written_plainly_in plan rows es e ≡ true
     by-main row main term a b content h =
-        let ubl : Bool = is_ubl (which_of rows) in
+        let ubl : Bool = is_ubl (document_type_of rows) in
         let w = also-both (pointwise same_step row.path main.path)
         (λ _. also (is_of outer inner main && lets_beside e.term term main.written)
         (λ _. also (stands_with ubl e.term outer inner term) (λ _. is_covered_beside plan (known_of rows) e.term row main term))) h in
@@ -372,33 +373,34 @@ module _ (plan : Plan) (rows : List Row) (es : List Entry) (e : Entry) (known : 
         (writes-value main es term e.context x.0 (main-modelled ubl e.term outer inner term t.0) content u.0 x.1
         (main-due term main.written u.1 (formed (form_for main.form term) es e.context x.0))))
 
-    by-beside : (row main : Row) → Among row rows → Among main rows → is_beside plan (known_of rows) (is_ubl (which_of rows)) e.term outer inner row main ≡ true
+    by-beside : (row main : Row) → Among row rows → Among main rows → is_beside plan (known_of rows) (is_ubl (document_type_of rows)) e.term outer inner row
+        main ≡ true
         → is_written_plainly_in plan rows es e ≡ true
     by-beside row main a b h = go main.content refl h
       where
         go : (content : Content) → main.content ≡ content
             → (elim content [
-              | (contents.Term main_t) ↦ is_main plan (known_of rows) (is_ubl (which_of rows)) e.term outer inner row main main_t
+              | (contents.Term main_t) ↦ is_main plan (known_of rows) (is_ubl (document_type_of rows)) e.term outer inner row main main_t
               | (contents.Constant text) ↦ false
             ]) ≡ true → is_written_plainly_in plan rows es e ≡ true
         go (contents.Term term) content k = by-main row main term a b content k
         go (contents.Constant text) content k = absurd (false≢true k)
 
-    pub by-attribute : has_attribute plan (known_of rows) rows (is_ubl (which_of rows)) e.term outer inner (rows_with e.term rows) ≡ true →
+    pub by-attribute : has_attribute plan (known_of rows) rows (is_ubl (document_type_of rows)) e.term outer inner (rows_with e.term rows) ≡ true →
         is_written_plainly_in plan rows es e ≡ true
     by-attribute h =
-        let found = any-found (λ (row : Row). list_any (is_beside plan (known_of rows) (is_ubl (which_of rows)) e.term outer inner row) rows)
+        let found = any-found (λ (row : Row). list_any (is_beside plan (known_of rows) (is_ubl (document_type_of rows)) e.term outer inner row) rows)
         (rows_with e.term rows) h in
         let row : Row = found.0 in
-        let main = any-found (is_beside plan (known_of rows) (is_ubl (which_of rows)) e.term outer inner row) rows found.1.1 in
+        let main = any-found (is_beside plan (known_of rows) (is_ubl (document_type_of rows)) e.term outer inner row) rows found.1.1 in
         by-beside row main.0 (of-filter (λ (r : Row). has_content e.term r.content) row rows found.1.0).0 main.1.0 main.1.1
 
     -- ---- a subject code
 
     by-note : (row : Row) (term : Term) → Among row rows → row.content ≡ contents.Term term → same_term e.term subject_code ≡ true →
-        is_note_of plan rows (is_ubl (which_of rows)) e.term outer inner row term ≡ true → is_written_plainly_in plan rows es e ≡ true
+        is_note_of plan rows (is_ubl (document_type_of rows)) e.term outer inner row term ≡ true → is_written_plainly_in plan rows es e ≡ true
     by-note row term a content code h =
-        let ubl : Bool = is_ubl (which_of rows) in
+        let ubl : Bool = is_ubl (document_type_of rows) in
         let w = also-both (lets_all row.written && is_of outer inner row)
         (λ _. also (stands_with ubl e.term outer inner term) (λ _. is_noted_in plan rows row term)) h in
         let v = both-true (lets_all row.written) (is_of outer inner row) w.0 in
@@ -409,20 +411,21 @@ module _ (plan : Plan) (rows : List Row) (es : List Entry) (e : Entry) (known : 
         (writes-value row es term e.context x.0 (main-modelled ubl e.term outer inner term u.0) content v.1 x.1
         (all-due row.written v.0 es term e.context (formed (form_for row.form term) es e.context x.0))))
 
-    by-coder : (row : Row) → Among row rows → same_term e.term subject_code ≡ true → is_coder plan rows (is_ubl (which_of rows)) e.term outer inner row ≡ true →
+    by-coder : (row : Row) → Among row rows → same_term e.term subject_code ≡ true → is_coder plan rows (is_ubl (document_type_of rows)) e.term outer inner
+        row ≡ true →
         is_written_plainly_in plan rows es e ≡ true
     by-coder row a code h = go row.content refl h
       where
         go : (content : Content) → row.content ≡ content
             → (elim content [
-              | (contents.Term term) ↦ is_note_of plan rows (is_ubl (which_of rows)) e.term outer inner row term
+              | (contents.Term term) ↦ is_note_of plan rows (is_ubl (document_type_of rows)) e.term outer inner row term
               | (contents.Constant text) ↦ false
             ]) ≡ true → is_written_plainly_in plan rows es e ≡ true
         go (contents.Term term) content k = by-note row term a content code k
         go (contents.Constant text) content k = absurd (false≢true k)
 
-    pub by-code : has_coder plan rows (is_ubl (which_of rows)) e.term outer inner ≡ true → is_written_plainly_in plan rows es e ≡ true
+    pub by-code : has_coder plan rows (is_ubl (document_type_of rows)) e.term outer inner ≡ true → is_written_plainly_in plan rows es e ≡ true
     by-code h =
-        let w = also-both (same_term e.term subject_code) (λ _. list_any (is_coder plan rows (is_ubl (which_of rows)) e.term outer inner) rows) h in
-        let found = any-found (is_coder plan rows (is_ubl (which_of rows)) e.term outer inner) rows w.1 in
+        let w = also-both (same_term e.term subject_code) (λ _. list_any (is_coder plan rows (is_ubl (document_type_of rows)) e.term outer inner) rows) h in
+        let found = any-found (is_coder plan rows (is_ubl (document_type_of rows)) e.term outer inner) rows w.1 in
         by-coder found.0 found.1.0 w.0 found.1.1

@@ -14,7 +14,7 @@ use Rattle.term_table.specs.Groups.{is_repeated}
 use Rattle.term_table.specs.Contexts.{same_groups, outer_group, inner_group, stands_in}
 use Rattle.bind_rows.specs.declared.rows.Content.TheVariants as contents
 use Rattle.bind_rows.specs.declared.rows.Row.{Row}
-use Rattle.bind_rows.specs.declared.rows.Filler.{Filler}
+use Rattle.bind_rows.specs.declared.rows.Placeholder.{Placeholder}
 use Rattle.bind_rows.specs.declared.rows.Form.{Form}
 use Rattle.bind_rows.specs.declared.rows.Form.TheVariants as forms
 use Rattle.bind_rows.specs.declared.rows.Written.{Written}
@@ -32,7 +32,7 @@ use Rattle.binding_laws.specs.Plain.{is_plain_attribute_with, is_spread_attribut
 use Rattle.binding_laws.specs.Covered.{is_filled_in, is_total_in, is_pair_in, is_noted_in, is_coded_row, accounting_terms, left_out}
 use Rattle.binding_laws.specs.Faultless.{is_if_scheme, is_model}
 use Rattle.bind_carrying.specs.Carrying.{bt, is_bt, main_term}
-use Rattle.bind_carrying.specs.Tables.{which_of, is_ubl}
+use Rattle.bind_carrying.specs.Tables.{document_type_of, is_ubl}
 
 -- Both hold; the second isn't computed where the first doesn't.
 abbrev pub also : Bool → (Unit {0} → Bool) → Bool
@@ -49,7 +49,7 @@ lets_all written.IfIban = false
 lets_all written.IfNotIban = false
 lets_all written.IfScheme = false
 lets_all written.IfNoScheme = false
-lets_all (written.OrFiller filler) = true
+lets_all (written.OrPlaceholder placeholder) = true
 lets_all written.VatTotal = true
 lets_all written.AccountingVatTotal = true
 
@@ -189,7 +189,7 @@ is_readable forms.Model term = true
 is_readable forms.PlainDate term = true
 is_readable forms.DueDateTypeCode term = is_bt 8 0 term
 is_readable forms.CodedNote term = true
-is_readable (forms.Typed letter) term = is_extension term
+is_readable (forms.Typed data_type) term = is_extension term
 is_readable forms.TypedPlainDate term = is_extension term
 
 abbrev pub reads_term : List Term → Row → Bool
@@ -200,14 +200,14 @@ reads_term left row = elim row.content [
 
 -- ---- values that aren't taken for something else
 
--- The row's filler is told from values by condition 3, if any.
-abbrev pub is_kept_filler : Bool → Term → Filler → Bool
-is_kept_filler ubl term filler =
-    ubl && ((is_bt 13 0 term && (bytes_eq filler.text (codes "NA") && same_term filler.beside (bt 14))) && stands_there term None None)
+-- The row's placeholder is told from values by condition 3, if any.
+abbrev pub is_kept_placeholder : Bool → Term → Placeholder → Bool
+is_kept_placeholder ubl term placeholder =
+    ubl && ((is_bt 13 0 term && (bytes_eq placeholder.text (codes "NA") && same_term placeholder.beside (bt 14))) && stands_there term None None)
 
-abbrev pub keeps_filler : Bool → Row → Bool
-keeps_filler ubl row = elim row.written [
-  | (written.OrFiller filler) ↦ elim row.content [ (contents.Term term) ↦ is_kept_filler ubl term filler | (contents.Constant text) ↦ true ]
+abbrev pub keeps_placeholder : Bool → Row → Bool
+keeps_placeholder ubl row = elim row.written [
+  | (written.OrPlaceholder placeholder) ↦ elim row.content [ (contents.Term term) ↦ is_kept_placeholder ubl term placeholder | (contents.Constant text) ↦ true ]
   | _ ↦ true
 ]
 
@@ -233,7 +233,7 @@ abbrev pub keeps_notes : List Row → Bool → Bool
 keeps_notes rows ubl = ubl || not (list_any is_coded_row rows)
 
 abbrev pub mistakes_none : Known → List Row → Bool → Bool
-mistakes_none known rows ubl = list_all (keeps_filler ubl) rows && (keeps_known known ubl && keeps_notes rows ubl)
+mistakes_none known rows ubl = list_all (keeps_placeholder ubl) rows && (keeps_known known ubl && keeps_notes rows ubl)
 
 -- ---- rows that users added
 
@@ -258,4 +258,4 @@ is_complete_in plan known left rows ubl =
 -- something else, unless its term is left out; no VAT total is in accounting currency but BT-111; and rows that users added
 -- are plain.
 abbrev pub is_complete : List Row → Bool
-is_complete rows = is_complete_in (plan_of rows) (known_of rows) (left_out rows) rows (is_ubl (which_of rows))
+is_complete rows = is_complete_in (plan_of rows) (known_of rows) (left_out rows) rows (is_ubl (document_type_of rows))

@@ -1,5 +1,5 @@
 ghost use Rattle.std.specs.Prelude.{◌≡◌, true, Ok};
-ghost use Rattle.bind_table.specs.Laid.{is_laid};
+ghost use Rattle.bind_table.specs.Laid.{is_writable};
 ghost use Rattle.bind_table.specs.WellFormed.{first_fault};
 ghost use Rattle.cii_binding.specs.Table.{cii_rows};
 
@@ -9,6 +9,6 @@ pub fn cii_is_well_formed()
 {}
 
 /// The table is laid.
-pub fn cii_is_laid()
-    ensures { is_laid cii_rows ≡ true }
+pub fn cii_is_writable()
+    ensures { is_writable cii_rows ≡ true }
 {}

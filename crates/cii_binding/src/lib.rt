@@ -5,5 +5,5 @@ mod conditions;
 mod laws;
 mod table;
 
-pub use laws::{cii_is_laid, cii_is_well_formed};
+pub use laws::{cii_is_well_formed, cii_is_writable};
 pub use table::cii;

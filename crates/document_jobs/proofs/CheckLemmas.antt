@@ -23,40 +23,40 @@ use Rattle.schematron_run.specs.Judging.{findings}
 use Rattle.schematron_rules.specs.Said.{CameFrom}
 use Rattle.schematron_rules.specs.Seen.{seen_rules, seen_active}
 use Rattle.svrl_report.specs.Plain.{all_lines}
-use Rattle.job_course.specs.declared.status.Status.{Status}
-use Rattle.job_course.specs.declared.status.Status.TheVariants as statuses
-use Rattle.job_course.specs.Course.{Course, ends, document_limits}
-use Rattle.job_course.specs.Libraries.{library_course}
-use Rattle.job_course.specs.Outside.{HasRead, IsAccepted, TakesOrFails}
-use Rattle.job_course.specs.Runs.{Runs, Continues, Fails}
-use Rattle.job_course.proofs.Ends.{written_here, memory_here, behind_document}
-use Rattle.job_course.proofs.FileLemmas.{refused_here}
-use Rattle.job_course.specs.Views.{document_read}
+use Rattle.job_protocol.specs.declared.status.Status.{Status}
+use Rattle.job_protocol.specs.declared.status.Status.TheVariants as statuses
+use Rattle.job_protocol.specs.Protocol.{Protocol, ends, document_limits}
+use Rattle.job_protocol.specs.Libraries.{library_protocol}
+use Rattle.job_protocol.specs.Outside.{HasRead, IsAccepted, TakesOrFails}
+use Rattle.job_protocol.specs.Runs.{Runs, Continues, Fails}
+use Rattle.job_protocol.proofs.Ends.{written_here, memory_here, behind_document}
+use Rattle.job_protocol.proofs.FileLemmas.{refused_here}
+use Rattle.job_protocol.specs.Views.{document_read}
 use Rattle.document_jobs.specs.declared.checks.Named as named_code
 use Rattle.document_jobs.specs.declared.checks.Chosen as chosen_code
-use Rattle.document_jobs.specs.Checks.{rule_line, no_phase_line, by_rules, said_course, Named, with_name, all_said, Chosen, with_active, with_more, chosen}
+use Rattle.document_jobs.specs.Checks.{rule_line, no_phase_line, by_rules, said_protocol, Named, with_name, all_said, Chosen, with_active, with_more, chosen}
 use Rattle.document_jobs.specs.Checks.{by_phase, counts, named_of, chosen_of, all_found, finding_status, report_text, reported, CanJudge, AreChosen, home_line}
 use Rattle.document_jobs.specs.Checks.{IsRefusalBy, IsRulesRefusal, IsPhaseRefusal, Reports, judged_next, chosen_next, said_next}
 
 -- ---- a rule file
 
 module _ (name : List ℕ) (held : Held) (shelf mid : ShelfView) (err mid_err : SinkView)
-    (goes_on : Continues (library_course name) held shelf mid err mid_err) where
+    (goes_on : Continues (library_protocol name) held shelf mid err mid_err) where
   -- what follows behind a rule file with its parts
-  abbrev rules_next : (Rules → Course) → Held → Course
+  abbrev rules_next : (Rules → Protocol) → Held → Protocol
   rules_next next all = by_rules name all next (rules_of (tree_nodes all.document))
 
   pub behind_said : (rules : Rules) (there : SinkView) → rules_of (tree_nodes held.document) ≡ Ok rules → there ≡ mid_err →
-      Continues (said_course name) rules shelf mid err there
+      Continues (said_protocol name) rules shelf mid err there
   behind_said rules there is quiet = λ next shelf' out out' err' status further.
       goes_on (rules_next next) shelf' out out' err' status
-      (subst (λ course. Runs course (record { shelf = mid; out = out; err = mid_err }) (record { shelf = shelf'; out = out'; err = err' }) status)
+      (subst (λ protocol. Runs protocol (record { shelf = mid; out = out; err = mid_err }) (record { shelf = shelf'; out = out'; err = err' }) status)
       (sym (ap (by_rules name held next) is))
       (subst (λ e. Runs (next rules) (record { shelf = mid; out = out; err = e }) (record { shelf = shelf'; out = out'; err = err' }) status) quiet further))
 
   said_by : (b : Bool) (fault : RuleFault) (status : Status) (err' : SinkView) → is_memory fault.kind ≡ b →
       Tells held.document fault (rules_of (tree_nodes held.document))
-      → IsRefusalBy b name held fault status mid_err err' → Fails (said_course name) status shelf mid err err'
+      → IsRefusalBy b name held fault status mid_err err' → Fails (said_protocol name) status shelf mid err err'
   said_by true fault status err' is tells refused = λ next out.
       rw (refused.0, refused.1) (goes_on (rules_next next) mid out out mid_err statuses.Memory (memory_here (rules_next next held) mid out mid_err))
   said_by false fault status err' is (inl memory) refused = absurd (true≢false (sym (sym is ∙ ap (λ (f : RuleFault). is_memory f.kind) memory)))
@@ -64,23 +64,24 @@ module _ (name : List ℕ) (held : Held) (shelf mid : ShelfView) (err mid_err : 
       let line = subst (λ (f : RuleFault). TakesOrFails (home_line name held f) mid_err err') first.2 refused.1 in
       let here = refused_here statuses.RulesRefused (rule_line name held first.0) mid out mid_err err' tt line in
       rw refused.0 (goes_on (rules_next next) mid out out err' statuses.RulesRefused
-      (subst (λ course. Runs course (record { shelf = mid; out = out; err = mid_err }) (record { shelf = mid; out = out; err = err' }) statuses.RulesRefused)
+      (subst (λ protocol. Runs protocol (record { shelf = mid; out = out; err = mid_err }) (record { shelf = mid; out = out; err = err' })
+          statuses.RulesRefused)
       (sym (ap (by_rules name held next) first.1)) here))
 
-  pub said_refused : (status : Status) (err' : SinkView) → IsRulesRefusal name held status mid_err err' → Fails (said_course name) status shelf mid err err'
+  pub said_refused : (status : Status) (err' : SinkView) → IsRulesRefusal name held status mid_err err' → Fails (said_protocol name) status shelf mid err err'
   said_refused status err' refused = said_by (is_memory refused.0.kind) refused.0 status err' refl refused.1 refused.2
 
 -- ---- all rule files
 
 -- what follows by all files, from where the first of them are had
-abbrev pub rest_course : List Named → (List Named → Course) → List (List ℕ) → Course
-rest_course sofar next names = all_said names (λ others. next (sofar ++ others))
+abbrev pub rest_protocol : List Named → (List Named → Protocol) → List (List ℕ) → Protocol
+rest_protocol sofar next names = all_said names (λ others. next (sofar ++ others))
 
 -- Whatever follows by all files: where the rest of them runs from here, all run from there.
 abbrev pub Leads : List (List ℕ) → List (List ℕ) → List Named → ShelfView → ShelfView → SinkView → SinkView → Type 0
 Leads all rest sofar shelf here err here_err =
-    (next : List Named → Course) (shelf' : ShelfView) (out out' err' : SinkView) (status : Status)
-    → Runs (rest_course sofar next rest) (record { shelf = here; out = out; err = here_err }) (record { shelf = shelf'; out = out'; err = err' }) status
+    (next : List Named → Protocol) (shelf' : ShelfView) (out out' err' : SinkView) (status : Status)
+    → Runs (rest_protocol sofar next rest) (record { shelf = here; out = out; err = here_err }) (record { shelf = shelf'; out = out'; err = err' }) status
     → Runs (all_said all next) (record { shelf = shelf; out = out; err = err }) (record { shelf = shelf'; out = out'; err = err' }) status
 
 pub leads_first : (all : List (List ℕ)) (shelf : ShelfView) (err : SinkView) → Leads all all [] shelf shelf err err
@@ -88,27 +89,27 @@ leads_first all shelf err = λ next shelf' out out' err' status further. further
 
 module _ (all rest : List (List ℕ)) (sofar : List Named) (name : List ℕ) (shelf here : ShelfView) (err here_err : SinkView) where
   -- what follows by a file, where others are had before it and read behind it
-  abbrev one_next : (List Named → Course) → Rules → Course
+  abbrev one_next : (List Named → Protocol) → Rules → Protocol
   one_next next rules = all_said rest (λ others. next (sofar ++ (with_name name rules ∷ others)))
 
   pub leads_on : (rules : Rules) (there : ShelfView) (there_err : SinkView) → Leads all (name ∷ rest) sofar shelf here err here_err
-      → Continues (said_course name) rules here there here_err there_err → Leads all rest (sofar ++ with_name name rules ∷ []) shelf there err there_err
+      → Continues (said_protocol name) rules here there here_err there_err → Leads all rest (sofar ++ with_name name rules ∷ []) shelf there err there_err
   leads_on rules there there_err leads goes_on = λ next shelf' out out' err' status further.
-      let same : rest_course (sofar ++ with_name name rules ∷ []) next rest ≡ one_next next rules =
+      let same : rest_protocol (sofar ++ with_name name rules ∷ []) next rest ≡ one_next next rules =
       λ i. all_said rest (λ others. next ((append_assoc sofar (with_name name rules ∷ []) others) i)) in
       leads next shelf' out out' err' status
       (goes_on (one_next next) shelf' out out' err' status
-      (subst (λ course. Runs course (record { shelf = there; out = out; err = there_err }) (record { shelf = shelf'; out = out'; err = err' }) status) same
+      (subst (λ protocol. Runs protocol (record { shelf = there; out = out; err = there_err }) (record { shelf = shelf'; out = out'; err = err' }) status) same
       further))
 
   pub leads_stop : (status : Status) (there : ShelfView) (there_err : SinkView) → Leads all (name ∷ rest) sofar shelf here err here_err
-      → Fails (said_course name) status here there here_err there_err → Fails (all_said all) status shelf there err there_err
+      → Fails (said_protocol name) status here there here_err there_err → Fails (all_said all) status shelf there err there_err
   leads_stop status there there_err leads fails = λ next out.
       leads next there out out there_err status (fails (one_next next) out)
 
   -- Memory ran out behind a file that is had.
   pub leads_memory : (rules : Rules) (there : ShelfView) (there_err : SinkView) → Leads all (name ∷ rest) sofar shelf here err here_err
-      → Continues (said_course name) rules here there here_err there_err → Fails (all_said all) statuses.Memory shelf there err there_err
+      → Continues (said_protocol name) rules here there here_err there_err → Fails (all_said all) statuses.Memory shelf there err there_err
   leads_memory rules there there_err leads goes_on = λ next out.
       leads next there out out there_err statuses.Memory
       (goes_on (one_next next) there out out there_err statuses.Memory (memory_here (one_next next rules) there out there_err))
@@ -267,7 +268,7 @@ pub check_unphased : (svrl : Bool) (phase file : List ℕ) (files : List Named) 
 check_unphased svrl phase file files status shelf out err err' (inl memory) =
     rw (memory.0, memory.1) (memory_here (said_next svrl phase file files) shelf out err)
 check_unphased svrl phase file files status shelf out err err' (inr told) =
-    rw told.2 (subst (λ course. Runs course (record { shelf = shelf; out = out; err = err })
+    rw told.2 (subst (λ protocol. Runs protocol (record { shelf = shelf; out = out; err = err })
     (record { shelf = shelf; out = out; err = err' }) statuses.RulesRefused)
     (sym (ap (by_phase phase (chosen_next svrl file)) told.1)) (refused_here statuses.RulesRefused (no_phase_line told.0 phase) shelf out err err' tt told.3))
 
@@ -278,7 +279,7 @@ pub behind_phases : (svrl : Bool) (phase file : List ℕ) (files : List Named) (
     → Runs (chosen_next svrl file cs) (record { shelf = shelf; out = out; err = here_err }) (record { shelf = shelf'; out = out'; err = err' }) status
     → Runs (said_next svrl phase file files) (record { shelf = shelf; out = out; err = err }) (record { shelf = shelf'; out = out'; err = err' }) status
 behind_phases svrl phase file files cs shelf shelf' out out' err here_err err' status are quiet further =
-    subst (λ course. Runs course (record { shelf = shelf; out = out; err = err }) (record { shelf = shelf'; out = out'; err = err' }) status)
+    subst (λ protocol. Runs protocol (record { shelf = shelf; out = out; err = err }) (record { shelf = shelf'; out = out'; err = err' }) status)
     (sym (ap (by_phase phase (chosen_next svrl file)) are))
     (subst (λ e. Runs (chosen_next svrl file cs) (record { shelf = shelf; out = out; err = e }) (record { shelf = shelf'; out = out'; err = err' }) status)
     quiet further)

@@ -38,17 +38,17 @@ use Rattle.xpath_meaning.specs.Resolving.{resolved}
 use Rattle.xpath_plan.specs.Plans.{Planned, expression}
 use Rattle.xpath_steps.specs.Variables as variables
 use Rattle.item_listing.specs.Listing.{listed, ValueWithin, WritesSome}
-use Rattle.job_course.specs.declared.status.Status.{Status}
-use Rattle.job_course.specs.declared.status.Status.TheVariants as statuses
-use Rattle.job_course.specs.Outside.{Outside, HasRead}
-use Rattle.job_course.specs.Course.{Course, ends, done, refusal, document_limits}
-use Rattle.job_course.specs.Runs.{RunsInPieces}
-use Rattle.job_course.proofs.Ends.{written_here, memory_here, pieces_behind_document}
-use Rattle.job_course.proofs.FileLemmas.{refused_here}
-use Rattle.job_course.specs.Views.{document_read}
+use Rattle.job_protocol.specs.declared.status.Status.{Status}
+use Rattle.job_protocol.specs.declared.status.Status.TheVariants as statuses
+use Rattle.job_protocol.specs.Outside.{Outside, HasRead}
+use Rattle.job_protocol.specs.Protocol.{Protocol, ends, done, refusal, document_limits}
+use Rattle.job_protocol.specs.Runs.{RunsInPieces}
+use Rattle.job_protocol.proofs.Ends.{written_here, memory_here, pieces_behind_document}
+use Rattle.job_protocol.proofs.FileLemmas.{refused_here}
+use Rattle.job_protocol.specs.Views.{document_read}
 use Rattle.document_jobs.specs.declared.queries.QueryFault.{QueryFault}
 use Rattle.document_jobs.specs.declared.queries.QueryFault.TheVariants as q
-use Rattle.document_jobs.specs.Queries.{query_scope, typed_in_query, by_tree, expression_of, expression_line, answered, by_expression, query_course, fault_of}
+use Rattle.document_jobs.specs.Queries.{query_scope, typed_in_query, by_tree, expression_of, expression_line, answered, by_expression, query_protocol, fault_of}
 use Rattle.document_jobs.specs.Queries.{type_fault_of, status_of, Asks, IsQueryRefusal, Answered}
 
 -- ---- the expression
@@ -203,25 +203,26 @@ answered_here status text shelf out out' err (inr (inr some)) = inr (record {
 pub query_refused : (text file : List ℕ) (fault : QueryFault) (status : Status) (shelf : ShelfView) (out err err' : SinkView) →
     Asks (Err fault) (expression_of text)
     → IsQueryRefusal fault status err err'
-    → RunsInPieces (query_course text file) (record { shelf = shelf; out = out; err = err }) (record { shelf = shelf; out = out; err = err' }) status
+    → RunsInPieces (query_protocol text file) (record { shelf = shelf; out = out; err = err }) (record { shelf = shelf; out = out; err = err' }) status
 query_refused text file q.Memory status shelf out err err' asks told =
-    rw (told.0, told.1) (inl (memory_here (query_course text file) shelf out err))
+    rw (told.0, told.1) (inl (memory_here (query_protocol text file) shelf out err))
 query_refused text file (q.Syntax fault) status shelf out err err' asks told =
-    rw told.0 (subst (λ course. RunsInPieces course (record { shelf = shelf; out = out; err = err })
+    rw told.0 (subst (λ protocol. RunsInPieces protocol (record { shelf = shelf; out = out; err = err })
     (record { shelf = shelf; out = out; err = err' }) statuses.RulesRefused)
     (sym (ap (by_expression file) asks)) (inl (refused_here statuses.RulesRefused (expression_line (q.Syntax fault)) shelf out err err' tt told.1)))
 query_refused text file (q.Typing kind token) status shelf out err err' asks told =
-    rw told.0 (subst (λ course. RunsInPieces course (record { shelf = shelf; out = out; err = err })
+    rw told.0 (subst (λ protocol. RunsInPieces protocol (record { shelf = shelf; out = out; err = err })
     (record { shelf = shelf; out = out; err = err' }) statuses.RulesRefused)
     (sym (ap (by_expression file) asks)) (inl (refused_here statuses.RulesRefused (expression_line (q.Typing kind token)) shelf out err err' tt told.1)))
 
 -- what follows behind the document
-abbrev pub query_next : Exp → profile.Document → Course
+abbrev pub query_next : Exp → profile.Document → Protocol
 query_next e found = ends (done (answered e (tree_nodes (document_read found))))
 
 pub query_planned : (text file : List ℕ) (plan : Planned) (status : Status) (before after : Outside) → Asks (Ok plan) (expression_of text)
-    → RunsInPieces (by_expression file (Ok (expression plan))) before after status → RunsInPieces (query_course text file) before after status
-query_planned text file plan status before after asks runs = subst (λ course. RunsInPieces course before after status) (sym (ap (by_expression file) asks)) runs
+    → RunsInPieces (by_expression file (Ok (expression plan))) before after status → RunsInPieces (query_protocol text file) before after status
+query_planned text file plan status before after asks runs = subst (λ protocol. RunsInPieces protocol before after status) (sym (ap (by_expression file)
+    asks)) runs
 
 pub query_answered : (file : List ℕ) (plan : Planned) (status : Status) (shelf mid : ShelfView) (out out' err mid_err : SinkView) (doc : Document)
     → HasRead 1 shelf mid → mid_err ≡ err → IsLoaded document_limits (option_map (bytes_under file) shelf.held) doc

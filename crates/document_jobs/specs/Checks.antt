@@ -29,12 +29,12 @@ use Rattle.schematron_findings.specs.declared.finding.Line.{Line}
 use Rattle.schematron_run.specs.Judging.{findings}
 use Rattle.svrl_report.specs.Plain.{is_failed_by, is_error_by, is_found, all_lines, plain_report}
 use Rattle.svrl_report.specs.Svrl.{svrl_report}
-use Rattle.job_course.specs.declared.status.Status.{Status}
-use Rattle.job_course.specs.declared.status.Status.TheVariants as statuses
-use Rattle.job_course.specs.Outside.{TakesOrFails}
-use Rattle.job_course.specs.Course.{Answer, Course, ends, refusal, by_result, document_course}
-use Rattle.job_course.specs.Libraries.{library_course}
-use Rattle.job_course.specs.Views.{document_read}
+use Rattle.job_protocol.specs.declared.status.Status.{Status}
+use Rattle.job_protocol.specs.declared.status.Status.TheVariants as statuses
+use Rattle.job_protocol.specs.Outside.{TakesOrFails}
+use Rattle.job_protocol.specs.Protocol.{Answer, Protocol, ends, refusal, by_result, document_protocol}
+use Rattle.job_protocol.specs.Libraries.{library_protocol}
+use Rattle.job_protocol.specs.Views.{document_read}
 use Rattle.document_jobs.specs.Queries.{placed, syntax_text, type_text}
 use Rattle.document_jobs.specs.declared.checks.Named as code
 use Rattle.document_jobs.specs.declared.checks.Chosen as chosen_code
@@ -97,12 +97,12 @@ no_phase_line file phase = codes "einv: " ++ (file ++ (codes ": NoPhase " ++ (ph
 -- ---- rule files
 
 -- what follows by the rules of a file with its parts, or its first fault
-abbrev pub by_rules : List ℕ → Held → (Rules → Course) → Result Rules Fault → Course
+abbrev pub by_rules : List ℕ → Held → (Rules → Protocol) → Result Rules Fault → Protocol
 by_rules name held next found = by_result (λ fault. ends (refusal statuses.RulesRefused (rule_line name held fault))) next found
 
 -- what the rule file of that name says with the parts that it takes of other files, and what follows by it
-abbrev pub said_course : List ℕ → (Rules → Course) → Course
-said_course name next = library_course name (λ held. by_rules name held next (rules_of (tree_nodes held.document)))
+abbrev pub said_protocol : List ℕ → (Rules → Protocol) → Protocol
+said_protocol name next = library_protocol name (λ held. by_rules name held next (rules_of (tree_nodes held.document)))
 
 -- a rule file with its name
 pub record Named : Type 0 where
@@ -113,9 +113,9 @@ abbrev pub with_name : List ℕ → Rules → Named
 with_name name rules = record { name = name; rules = rules }
 
 -- what the rule files of these names say, one after another, and what follows by all of them
-abbrev pub all_said : List (List ℕ) → (List Named → Course) → Course
+abbrev pub all_said : List (List ℕ) → (List Named → Protocol) → Protocol
 all_said [] next = next []
-all_said (name ∷ names) next = said_course name (λ rules. all_said names (λ others. next (with_name name rules ∷ others)))
+all_said (name ∷ names) next = said_protocol name (λ rules. all_said names (λ others. next (with_name name rules ∷ others)))
 
 -- rules with what is active of them
 pub record Chosen : Type 0 where
@@ -138,7 +138,7 @@ chosen phase (file ∷ files) = elim (active_of file.rules (chars phase)) [
 ]
 
 -- what follows by what is active, or the refusal of a file without the phase
-abbrev pub by_phase : List ℕ → (List Chosen → Course) → Result (List Chosen) (List ℕ) → Course
+abbrev pub by_phase : List ℕ → (List Chosen → Protocol) → Result (List Chosen) (List ℕ) → Protocol
 by_phase phase next found = by_result (λ name. ends (refusal statuses.RulesRefused (no_phase_line name phase))) next found
 
 -- the phase that is asked for where none is named
@@ -147,8 +147,8 @@ phase_asked None = the_default
 phase_asked (Some phase) = phase
 
 -- what is active of the rule files, of which all are read before one is refused for its phases, and what follows by it
-abbrev pub chosen_course : List ℕ → List (List ℕ) → (List Chosen → Course) → Course
-chosen_course phase names next = all_said names (λ files. by_phase phase next (chosen phase files))
+abbrev pub chosen_protocol : List ℕ → List (List ℕ) → (List Chosen → Protocol) → Protocol
+chosen_protocol phase names next = all_said names (λ files. by_phase phase next (chosen phase files))
 
 -- ---- the report
 
@@ -176,21 +176,22 @@ abbrev pub reported : Bool → List (List Line) → Answer
 reported svrl found = record { status = finding_status found; out = report_text svrl found; err = [] }
 
 -- the rule files before the document, and one report over all of them
-abbrev pub check_course : Bool → Option (List ℕ) → List (List ℕ) → List ℕ → Course
-check_course svrl phase names file =
-    chosen_course (phase_asked phase) names (λ files. document_course file (λ found. ends (reported svrl (all_found (tree_nodes (document_read found)) files))))
+abbrev pub check_protocol : Bool → Option (List ℕ) → List (List ℕ) → List ℕ → Protocol
+check_protocol svrl phase names file =
+    chosen_protocol (phase_asked phase) names (λ files. document_protocol file (λ found. ends (reported svrl (all_found (tree_nodes (document_read found))
+        files))))
 
 -- ---- what the code has
 
 -- what is judged once it is known what is active: the document
-abbrev pub judged_next : Bool → List Chosen → profile.Document → Course
+abbrev pub judged_next : Bool → List Chosen → profile.Document → Protocol
 judged_next svrl files found = ends (reported svrl (all_found (tree_nodes (document_read found)) files))
 
-abbrev pub chosen_next : Bool → List ℕ → List Chosen → Course
-chosen_next svrl file files = document_course file (judged_next svrl files)
+abbrev pub chosen_next : Bool → List ℕ → List Chosen → Protocol
+chosen_next svrl file files = document_protocol file (judged_next svrl files)
 
 -- what follows once all rule files are read
-abbrev pub said_next : Bool → List ℕ → List ℕ → List Named → Course
+abbrev pub said_next : Bool → List ℕ → List ℕ → List Named → Protocol
 said_next svrl phase file files = by_phase phase (chosen_next svrl file) (chosen phase files)
 
 -- a rule file as the definitions have it

@@ -8,7 +8,7 @@ use Rattle.inv_base.specs.Tree.{Name, Attribute, Node, Forest, no_more, a_text, 
 use Rattle.xml_events.specs.Events.{name_at}
 use Rattle.xml_profile.specs.Profile.{tree_of}
 use Rattle.node_arena.specs.Document.{Placed}
-use Rattle.job_course.specs.Course.{Course, ends, done, document_course}
+use Rattle.job_protocol.specs.Protocol.{Protocol, ends, done, document_protocol}
 
 -- a namespace name in braces, where there is one
 abbrev pub braced : List ℕ → List ℕ
@@ -60,5 +60,5 @@ abbrev pub line_as : Kind → List Name → Placed → List ℕ
 line_as kind names node = line_of kind (length node.above - 1) (option_map (name_at names) node.name) node.text
 
 -- the outline of the document's tree
-abbrev pub outline_course : List ℕ → Course
-outline_course file = document_course file (λ found. ends (done (outline_text (tree_of found))))
+abbrev pub outline_protocol : List ℕ → Protocol
+outline_protocol file = document_protocol file (λ found. ends (done (outline_text (tree_of found))))

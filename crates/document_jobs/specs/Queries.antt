@@ -23,11 +23,11 @@ use Rattle.xpath_meaning.specs.Meaning.{mean, at_top}
 use Rattle.xpath_meaning.specs.Resolving.{resolved}
 use Rattle.xpath_plan.specs.Plans.{Planned, expression}
 use Rattle.item_listing.specs.Listing.{listed, WritesSome}
-use Rattle.job_course.specs.declared.status.Status.{Status}
-use Rattle.job_course.specs.declared.status.Status.TheVariants as statuses
-use Rattle.job_course.specs.Outside.{TakesOrFails}
-use Rattle.job_course.specs.Course.{Course, ends, done, refusal, by_result, document_course}
-use Rattle.job_course.specs.Views.{document_read}
+use Rattle.job_protocol.specs.declared.status.Status.{Status}
+use Rattle.job_protocol.specs.declared.status.Status.TheVariants as statuses
+use Rattle.job_protocol.specs.Outside.{TakesOrFails}
+use Rattle.job_protocol.specs.Protocol.{Protocol, ends, done, refusal, by_result, document_protocol}
+use Rattle.job_protocol.specs.Views.{document_read}
 use Rattle.document_jobs.specs.declared.queries.QueryFault.{QueryFault}
 use Rattle.document_jobs.specs.declared.queries.QueryFault.TheVariants as q
 
@@ -101,12 +101,12 @@ unfoldable pub answered : Exp → List Node → List ℕ
 answered e nodes = listed nodes (mean nodes e (at_top 0 []))
 
 -- what follows by an expression, or its refusal, which comes before any file is opened
-abbrev pub by_expression : List ℕ → Result Exp QueryFault → Course
+abbrev pub by_expression : List ℕ → Result Exp QueryFault → Protocol
 by_expression file e = by_result (λ fault. ends (refusal statuses.RulesRefused (expression_line fault)))
-    (λ e. document_course file (λ found. ends (done (answered e (tree_nodes (document_read found)))))) e
+    (λ e. document_protocol file (λ found. ends (done (answered e (tree_nodes (document_read found)))))) e
 
-abbrev pub query_course : List ℕ → List ℕ → Course
-query_course text file = by_expression file (expression_of text)
+abbrev pub query_protocol : List ℕ → List ℕ → Protocol
+query_protocol text file = by_expression file (expression_of text)
 
 -- ---- what the code has
 

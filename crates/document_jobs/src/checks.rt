@@ -5,16 +5,16 @@ ghost use Rattle.inv_base.specs.Writing.{Writes};
 ghost use Rattle.node_arena.specs.Moves.{tree_nodes};
 ghost use Rattle.schematron_meaning.specs.Rules.{rules_of};
 ghost use Rattle.schematron_rules.specs.Seen.{seen_rules};
-ghost use Rattle.job_course.specs.Runs.{Runs, Continues, Fails};
-ghost use Rattle.job_course.specs.Views.{text_of, texts_of};
+ghost use Rattle.job_protocol.specs.Runs.{Runs, Continues, Fails};
+ghost use Rattle.job_protocol.specs.Views.{text_of, texts_of};
 ghost use Rattle.document_jobs.specs.Checks as spec;
-ghost use Rattle.document_jobs.specs.Checks.{named_of, chosen_of, AreChosen, IsRuleRefusal, IsRulesRefusal, IsPhaseRefusal, Reports, said_course, all_said};
-ghost use Rattle.document_jobs.specs.Checks.{chosen_next, said_next, check_course};
+ghost use Rattle.document_jobs.specs.Checks.{named_of, chosen_of, AreChosen, IsRuleRefusal, IsRulesRefusal, IsPhaseRefusal, Reports, said_protocol, all_said};
+ghost use Rattle.document_jobs.specs.Checks.{chosen_next, said_next, check_protocol};
 
 use crate::refusals::{tell_at_home, tell_no_phase};
 use bumpalo::Bump;
 use inv_base::{Shelf, Sink, Steps};
-use job_course::{Status, load_document, load_library};
+use job_protocol::{Status, load_document, load_library};
 use node_arena::Doc;
 use rule_library::Library;
 use schematron_compile::{Active, PhaseFault, RuleFault, Rules, compile};
@@ -75,7 +75,7 @@ pub fn check<S: Shelf, O: Sink, E: Sink>(
     out: &mut O,
     err: &mut E,
 ) -> Status
-    ensures { Runs (check_course asked.now.svrl (option_map text_of asked.now.phase) (texts_of asked.now.rules.now) asked.now.file.now)
+    ensures { Runs (check_protocol asked.now.svrl (option_map text_of asked.now.phase) (texts_of asked.now.rules.now) asked.now.file.now)
         (record { shelf = S.view shelf.old; out = O.view out.old; err = E.view err.old })
         (record { shelf = S.view shelf.new; out = O.view out.new; err = E.view err.new }) result }
 {
@@ -94,7 +94,7 @@ fn check_by<L: Ledger, S: Shelf, O: Sink, E: Sink>(
     requires name { ledger.name ≡ L.name }
     requires parts { ledger.parts ≡ L.parts }
     requires some { 0 < ledger.parts }
-    ensures { Runs (check_course asked.now.svrl (option_map text_of asked.now.phase) (texts_of asked.now.rules.now) asked.now.file.now)
+    ensures { Runs (check_protocol asked.now.svrl (option_map text_of asked.now.phase) (texts_of asked.now.rules.now) asked.now.file.now)
         (record { shelf = S.view shelf.old; out = O.view out.old; err = E.view err.old })
         (record { shelf = S.view shelf.new; out = O.view out.new; err = E.view err.new }) result }
 {
@@ -199,9 +199,9 @@ fn load_said<S: Shelf, E: Sink>(
     shelf: &mut S,
     err: &mut E,
 ) -> Result<Rules, Status>
-    ensures goes_on { IfOk result (λ rules. Continues (said_course name.now) (seen_rules rules)
+    ensures goes_on { IfOk result (λ rules. Continues (said_protocol name.now) (seen_rules rules)
         (S.view shelf.old) (S.view shelf.new) (E.view err.old) (E.view err.new)) }
-    ensures fails { IfErr result (λ status. Fails (said_course name.now) status
+    ensures fails { IfErr result (λ status. Fails (said_protocol name.now) status
         (S.view shelf.old) (S.view shelf.new) (E.view err.old) (E.view err.new)) }
 {
     let bump = Bump::new(alloc);

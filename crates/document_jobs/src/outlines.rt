@@ -1,13 +1,13 @@
 //! The job that writes the outline of a document.
 ghost use Rattle.std.specs.Prelude.{◌≡◌};
 ghost use Rattle.inv_base.specs.Counts.{next_count};
-ghost use Rattle.job_course.specs.Runs.{Runs};
-ghost use Rattle.document_jobs.specs.Outline.{outline_course};
+ghost use Rattle.job_protocol.specs.Runs.{Runs};
+ghost use Rattle.document_jobs.specs.Outline.{outline_protocol};
 
 use crate::printing::print_outline;
 use bumpalo::Bump;
 use inv_base::{Shelf, Sink};
-use job_course::{Status, load_document};
+use job_protocol::{Status, load_document};
 use std::alloc::Global;
 
 /// Writes the outline of a document.
@@ -18,7 +18,7 @@ pub fn outline<S: Shelf, O: Sink, E: Sink>(
     out: &mut O,
     err: &mut E,
 ) -> Status
-    ensures runs { Runs (outline_course file.now)
+    ensures runs { Runs (outline_protocol file.now)
         (record { shelf = S.view shelf.old; out = O.view out.old; err = E.view err.old })
         (record { shelf = S.view shelf.new; out = O.view out.new; err = E.view err.new }) result }
     ensures opens { (S.view shelf.new).opens ≡ next_count (S.view shelf.old).opens }

@@ -2,9 +2,9 @@
 ghost use Rattle.std.specs.Prelude.{◌≡◌, ◌<◌, [], codes, length, IfOk, OnOk, Ok};
 ghost use Rattle.std.specs.Str.{IsAscii};
 ghost use Rattle.inv_base.specs.Printing.{Prints};
-ghost use Rattle.job_course.specs.Outside.{TakesOrFails};
-ghost use Rattle.job_course.specs.declared.status.Status.TheVariants as statuses;
-ghost use Rattle.job_course.specs.Runs.{RunsInPieces};
+ghost use Rattle.job_protocol.specs.Outside.{TakesOrFails};
+ghost use Rattle.job_protocol.specs.declared.status.Status.TheVariants as statuses;
+ghost use Rattle.job_protocol.specs.Runs.{RunsInPieces};
 ghost use Rattle.node_arena.specs.Moves.{tree_nodes};
 ghost use Rattle.xpath_grammar.specs.Grammar.{Grammatical};
 ghost use Rattle.xpath_grammar.specs.View.{view};
@@ -16,14 +16,14 @@ ghost use Rattle.xpath_types.specs.Scopes.{with_prefix};
 ghost use Rattle.bind_rows.specs.declared.names.Namespace.TheVariants as spaces;
 ghost use Rattle.bind_rows.specs.Namespaces as names;
 ghost use Rattle.document_jobs.specs.Queries as spec;
-ghost use Rattle.document_jobs.specs.Queries.{Asks, IsQueryRefusal, Answered, answered, by_expression, query_course};
+ghost use Rattle.document_jobs.specs.Queries.{Asks, IsQueryRefusal, Answered, answered, by_expression, query_protocol};
 
 use bind_rows::{Namespace, uri_of};
 use bumpalo::Bump;
 use inv_base::{Printer, Shelf, Sink, Steps};
 use item_listing::write_items;
 use itoa::Buffer;
-use job_course::{Status, load_document};
+use job_protocol::{Status, load_document};
 use node_arena::Doc;
 use std::alloc::{AllocError, Global};
 use std::marker::Brand;
@@ -58,7 +58,7 @@ pub fn query<S: Shelf, O: Sink, E: Sink>(
     out: &mut O,
     err: &mut E,
 ) -> Status
-    ensures { RunsInPieces (query_course text.now file.now)
+    ensures { RunsInPieces (query_protocol text.now file.now)
         (record { shelf = S.view shelf.old; out = O.view out.old; err = E.view err.old })
         (record { shelf = S.view shelf.new; out = O.view out.new; err = E.view err.new }) result }
 {

@@ -1,7 +1,7 @@
 //! The lines of rule files that are refused, or have no phase of a name.
 ghost use Rattle.std.specs.Prelude.{◌≡◌};
 ghost use Rattle.inv_base.specs.Printing.{Prints};
-ghost use Rattle.job_course.specs.Outside.{TakesOrFails};
+ghost use Rattle.job_protocol.specs.Outside.{TakesOrFails};
 ghost use Rattle.document_jobs.specs.Checks.{fault_line, home_line, file_at, rule_kind_text, rule_attribute_text, rule_expression_text, reason_text};
 ghost use Rattle.document_jobs.specs.Checks.{no_phase_line};
 

@@ -10,7 +10,7 @@ use Rattle.std.proofs.lemmas.List.Splits.{length-slice_split}
 use Rattle.std.proofs.lemmas.Option.{cond_some, option_and_then_some, same_Some, none-some}
 use Rattle.toml.specs.Data.{Data, Items, no_items, item, Members, get_member, as_str, as_integer, as_table}
 use Rattle.code_lists.specs.CodeFiles.{document_of}
-use Rattle.term_table.specs.declared.terms.Letter.{Letter}
+use Rattle.term_table.specs.declared.terms.DataType.{DataType}
 use Rattle.term_table.specs.Rows.{is_base64}
 use Rattle.bind_rows.specs.declared.names.Namespace.{Namespace}
 use Rattle.bind_rows.specs.declared.names.Namespace.TheVariants as spaces
@@ -22,9 +22,10 @@ use Rattle.extension_files.specs.declared.terms.ExtTerm.{ExtTerm}
 use Rattle.extension_files.specs.declared.terms.Paths.{Paths}
 use Rattle.extension_files.specs.declared.fault.ExtFault.{ExtFault}
 use Rattle.extension_files.specs.declared.fault.ExtFault.TheVariants.{NotToml, NotAnExtension, BadTerm, Memory}
-use Rattle.extension_files.specs.Words.{place_named, letter_named, word_of_letter, added_letters}
+use Rattle.extension_files.specs.Words.{place_named, data_type_named, word_of_letter, added_data_types}
 use Rattle.extension_files.specs.PathTexts.{is_slash, is_colon, is_local, parts_of, name_of, names_of, path_of}
-use Rattle.extension_files.specs.TermTables.{ubl_spaces, cii_spaces, text_at, integer_at, number_above, number_of, place_of, letter_of, head_in, other_key_of}
+use Rattle.extension_files.specs.TermTables.{ubl_spaces, cii_spaces, text_at, integer_at, number_above, number_of, place_of, data_type_of, head_in}
+use Rattle.extension_files.specs.TermTables.{other_key_of}
 use Rattle.extension_files.specs.TermTables.{head_of, path_at, has_path, some_paths, paths_of, term_of}
 use Rattle.code_lists.specs.Keys.{other_key}
 use Rattle.extension_files.specs.ExtensionFiles.{value_term, before_terms, terms_from, term_tables, document_terms, file_terms}
@@ -164,7 +165,7 @@ number-fine before (negsuc m) n h = absurd (none-some _ h)
 record IsFine (before : ℕ) (term : ExtTerm) : Type 0 where
   above : nat_lt before term.number ≡ true
   most : nat_le term.number 99 ≡ true
-  letter : not (is_base64 term.letter) ≡ true
+  data_type : not (is_base64 term.data_type) ≡ true
   paths : are_paths term.paths ≡ true
 
 abbrev IsFineHead : ℕ → Head → Type 0
@@ -172,25 +173,26 @@ IsFineHead before head = (nat_lt before head.0 ≡ true) × (nat_le head.0 99 �
 
 head-parts : (before : ℕ) (ms : Members) (head : Head) → head_in before ms ≡ Some head → IsFineHead before head
 head-parts before ms head h =
-    option_and_then_some (λ number. option_and_then (λ place. option_map (λ letter. (number, place, letter)) (letter_of ms)) (place_of ms))
+    option_and_then_some (λ number. option_and_then (λ place. option_map (λ data_type. (number, place, data_type)) (data_type_of ms)) (place_of ms))
     (number_of before ms) head h
-    (λ number at_number h. option_and_then_some (λ place. option_map (λ letter. (number, place, letter)) (letter_of ms)) (place_of ms) head h
-    (λ place at_place h. by number place (number_at number at_number) (letter_of ms) refl h))
+    (λ number at_number h. option_and_then_some (λ place. option_map (λ data_type. (number, place, data_type)) (data_type_of ms)) (place_of ms) head h
+    (λ place at_place h. by number place (number_at number at_number) (data_type_of ms) refl h))
   where
     number_at : (n : ℕ) → number_of before ms ≡ Some n → (nat_lt before n ≡ true) × (nat_le n 99 ≡ true)
     number_at n e = option_and_then_some (number_above before) (integer_at (codes "number") ms) n e (λ z there is. number-fine before z n is)
 
-    letter_at : (letter : Letter) → letter_of ms ≡ Some letter → not (is_base64 letter) ≡ true
-    letter_at letter e =
-        option_and_then_some letter_named (text_at (codes "type") ms) letter e
-        (λ word there is. found-all (λ letter. bytes_eq (word_of_letter letter) word) (λ letter. not (is_base64 letter)) added_letters letter is refl)
+    letter_at : (data_type : DataType) → data_type_of ms ≡ Some data_type → not (is_base64 data_type) ≡ true
+    letter_at data_type e =
+        option_and_then_some data_type_named (text_at (codes "type") ms) data_type e
+        (λ word there is. found-all (λ data_type. bytes_eq (word_of_letter data_type) word) (λ data_type. not (is_base64 data_type)) added_data_types
+            data_type is refl)
 
-    by : (number : ℕ) (place : ExtPlace) → (nat_lt before number ≡ true) × (nat_le number 99 ≡ true) → (o : Option Letter) → letter_of ms ≡ o
-        → option_map (λ letter. (number, place, letter)) (letter_of ms) ≡ Some head → IsFineHead before head
-    by number place fine None e h = absurd (none-some _ (ap (option_map (λ letter. (number, place, letter))) (sym e) ∙ h))
-    by number place fine (Some letter) e h =
-        let is : ◌≡◌ {A = Head} (number, place, letter) head = same_Some _ _ (ap (option_map (λ letter. (number, place, letter))) (sym e) ∙ h) in
-        let all : IsFineHead before (number, place, letter) = (fine.0, fine.1, letter_at letter e) in
+    by : (number : ℕ) (place : ExtPlace) → (nat_lt before number ≡ true) × (nat_le number 99 ≡ true) → (o : Option DataType) → data_type_of ms ≡ o
+        → option_map (λ data_type. (number, place, data_type)) (data_type_of ms) ≡ Some head → IsFineHead before head
+    by number place fine None e h = absurd (none-some _ (ap (option_map (λ data_type. (number, place, data_type))) (sym e) ∙ h))
+    by number place fine (Some data_type) e h =
+        let is : ◌≡◌ {A = Head} (number, place, data_type) head = same_Some _ _ (ap (option_map (λ data_type. (number, place, data_type))) (sym e) ∙ h) in
+        let all : IsFineHead before (number, place, data_type) = (fine.0, fine.1, letter_at data_type e) in
         subst (IsFineHead before) is all
 
 abbrev unless : Option Head → Bool → Option Head
@@ -211,9 +213,9 @@ term-fine before ms term h =
     by : (head : Head) → IsFineHead before head → (o : Option Paths) → paths_of ms ≡ o → made before ms head (paths_of ms) ≡ Some term → IsFine before term
     by head fine None e h = absurd (none-some term (ap (made before ms head) (sym e) ∙ h))
     by head fine (Some paths) e h =
-        let whole : ExtTerm = record { number = head.0; place = head.1; letter = head.2; paths = paths } in
+        let whole : ExtTerm = record { number = head.0; place = head.1; data_type = head.2; paths = paths } in
         let is : whole ≡ term = same_Some whole term (ap (made before ms head) (sym e) ∙ h) in
-        subst (IsFine before) is (record { above = fine.0; most = fine.1; letter = fine.2; paths = paths-fine ms paths e })
+        subst (IsFine before) is (record { above = fine.0; most = fine.1; data_type = fine.2; paths = paths-fine ms paths e })
 
 value-fine : (before : ℕ) (d : Data) (term : ExtTerm) → value_term before d ≡ Some term → IsFine before term
 value-fine before d term h = option_and_then_some (term_of before) (as_table d) term h (λ ms there is. term-fine before ms term is)
@@ -240,7 +242,7 @@ joined-fine : (before place : ℕ) (ds : Items) (term : ExtTerm) (terms : List E
 joined-fine before place ds term terms fine rest (Ok more) e g =
     let is : (term ∷ more) ≡ terms = cc in
     ap (are_terms before) (sym is)
-    ∙ join-by _ _ fine.above (join-by _ _ fine.most (join-by _ _ fine.letter (join-by _ _ fine.paths (rest term.number (place + 1) more e))))
+    ∙ join-by _ _ fine.above (join-by _ _ fine.most (join-by _ _ fine.data_type (join-by _ _ fine.paths (rest term.number (place + 1) more e))))
 joined-fine before place ds term terms fine rest (Err fault) e g = cc
 
 pub terms-fine : (ds : Items) → AreFine ds

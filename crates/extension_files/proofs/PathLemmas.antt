@@ -39,12 +39,12 @@ module _ (spaces : List Namespace) (text : List ℕ) (texts : List (List ℕ)) (
   names-none h = ap (λ o. behind names (option_and_then (λ name. option_map (λ names. name ∷ names) (names_of spaces texts)) o)) h
 
 -- a local part is ASCII
-letters-ascii : (cs : List ℕ) → list_all is_ascii_alphanumeric cs ≡ true → IsAscii cs
-letters-ascii [] h = IsAscii-nil
-letters-ascii (c ∷ cs) h =
+data_types-ascii : (cs : List ℕ) → list_all is_ascii_alphanumeric cs ≡ true → IsAscii cs
+data_types-ascii [] h = IsAscii-nil
+data_types-ascii (c ∷ cs) h =
     let (here, later) = and_parts (is_ascii_alphanumeric c) (list_all is_ascii_alphanumeric cs) h in
     let low : c < 128 = grind (arith, nat_tests) in
-    IsAscii-cons c cs low (letters-ascii cs later)
+    IsAscii-cons c cs low (data_types-ascii cs later)
 
 local-ascii : (cs : List ℕ) → is_local cs ≡ true → IsAscii cs
 local-ascii [] h = IsAscii-nil
@@ -52,7 +52,7 @@ local-ascii (c ∷ cs) h =
     let (here, more) = and_parts (is_ascii_alphabetic c) _ h in
     let (few, later) = and_parts _ (list_all is_ascii_alphanumeric cs) more in
     let low : c < 128 = grind (arith, nat_tests) in
-    IsAscii-cons c cs low (letters-ascii cs later)
+    IsAscii-cons c cs low (data_types-ascii cs later)
 
 pub chars-local : (cs : List ℕ) → is_local cs ≡ true → chars cs ≡ cs
 chars-local cs h = chars-IsAscii cs (local-ascii cs h)
@@ -134,7 +134,7 @@ module _ (spaces : List Namespace) (all : List (Bor (List ℕ))) (i : ℕ) (name
 pub local-cons : (text : List ℕ) (c : ℕ) (cs : List ℕ) (rest : Bool) → text ≡ c ∷ cs → is_ascii_alphabetic c ≡ true →
     rest ≡ (nat_le (length cs) 99 && list_all is_ascii_alphanumeric cs)
     → rest ≡ is_local text
-local-cons text c cs rest is letter h = h ∙ sym (ap is_local is ∙ ap (λ b. b && (nat_le (length cs) 99 && list_all is_ascii_alphanumeric cs)) letter)
+local-cons text c cs rest is data_type h = h ∙ sym (ap is_local is ∙ ap (λ b. b && (nat_le (length cs) 99 && list_all is_ascii_alphanumeric cs)) data_type)
 
 -- a path by its texts
 module _ (spaces : List Namespace) (text : List ℕ) (all : List (Bor (List ℕ))) (are : texts_of all ≡ slice_split is_slash text) where

@@ -6,14 +6,14 @@ use Rattle.std.specs.Option.{option_map, option_and_then, is_some}
 use Rattle.std.proofs.lemmas.Bool.Decides.{nat_tests}
 use Rattle.std.proofs.lemmas.Int.{ints, to_z-of_z}
 use Rattle.toml.specs.Data.{Data, Members, get_member, as_str}
-use Rattle.term_table.specs.declared.terms.Letter.{Letter}
+use Rattle.term_table.specs.declared.terms.DataType.{DataType}
 use Rattle.bind_rows.specs.declared.names.Namespace.{Namespace}
 use Rattle.bind_rows.specs.declared.names.ElementName.{ElementName}
 use Rattle.extension_files.specs.declared.terms.ExtPlace.{ExtPlace}
 use Rattle.extension_files.specs.declared.terms.ExtTerm.{ExtTerm}
 use Rattle.extension_files.specs.declared.terms.Paths.{Paths}
 use Rattle.extension_files.specs.PathTexts.{path_of}
-use Rattle.extension_files.specs.TermTables.{number_above, integer_at, number_of, place_of, letter_of, head_in, other_key_of, head_of, path_at, has_path}
+use Rattle.extension_files.specs.TermTables.{number_above, integer_at, number_of, place_of, data_type_of, head_in, other_key_of, head_of, path_at, has_path}
 use Rattle.extension_files.specs.TermTables.{some_paths, paths_of, ubl_spaces, cii_spaces, term_of}
 use mir.Val.{SFits}
 
@@ -57,7 +57,7 @@ module _ (before : ℕ) (ms : Members) where
 
 -- what a table says of its term but its paths
 abbrev pub Head : Type 0
-Head = ℕ × ExtPlace × Letter
+Head = ℕ × ExtPlace × DataType
 
 module _ (before : ℕ) (ms : Members) where
   pub head-other : true ≡ is_some (other_key_of ms) → None ≡ head_of before ms
@@ -68,26 +68,28 @@ module _ (before : ℕ) (ms : Members) where
     inside = ap (λ b. if b then None else head_in before ms) alone
 
     pub head-no_number : None ≡ number_of before ms → None ≡ head_of before ms
-    head-no_number h = ap (option_and_then (λ number. option_and_then (λ place. option_map (λ letter. (number, place, letter)) (letter_of ms)) (place_of ms))) h
+    head-no_number h = ap (option_and_then (λ number. option_and_then (λ place. option_map (λ data_type. (number, place, data_type)) (data_type_of ms))
+        (place_of ms))) h
         ∙ inside
 
     module _ (number : ℕ) (at_number : Some number ≡ number_of before ms) where
-      numbered : option_and_then (λ place. option_map (λ letter. (number, place, letter)) (letter_of ms)) (place_of ms) ≡ head_of before ms
-      numbered = ap (option_and_then (λ number. option_and_then (λ place. option_map (λ letter. (number, place, letter)) (letter_of ms)) (place_of ms)))
+      numbered : option_and_then (λ place. option_map (λ data_type. (number, place, data_type)) (data_type_of ms)) (place_of ms) ≡ head_of before ms
+      numbered = ap (option_and_then (λ number. option_and_then (λ place. option_map (λ data_type. (number, place, data_type)) (data_type_of ms)) (place_of
+          ms)))
           at_number ∙ inside
 
       pub head-no_place : None ≡ place_of ms → None ≡ head_of before ms
-      head-no_place h = ap (option_and_then (λ place. option_map (λ letter. (number, place, letter)) (letter_of ms))) h ∙ numbered
+      head-no_place h = ap (option_and_then (λ place. option_map (λ data_type. (number, place, data_type)) (data_type_of ms))) h ∙ numbered
 
       module _ (place : ExtPlace) (at_place : Some place ≡ place_of ms) where
-        placed : option_map (λ letter. (number, place, letter)) (letter_of ms) ≡ head_of before ms
-        placed = ap (option_and_then (λ place. option_map (λ letter. (number, place, letter)) (letter_of ms))) at_place ∙ numbered
+        placed : option_map (λ data_type. (number, place, data_type)) (data_type_of ms) ≡ head_of before ms
+        placed = ap (option_and_then (λ place. option_map (λ data_type. (number, place, data_type)) (data_type_of ms))) at_place ∙ numbered
 
-        pub head-no_letter : None ≡ letter_of ms → None ≡ head_of before ms
-        head-no_letter h = ap (option_map (λ letter. (number, place, letter))) h ∙ placed
+        pub head-no_letter : None ≡ data_type_of ms → None ≡ head_of before ms
+        head-no_letter h = ap (option_map (λ data_type. (number, place, data_type))) h ∙ placed
 
-        pub head-whole : (letter : Letter) → Some letter ≡ letter_of ms → ◌≡◌ {A = Option Head} (Some (number, place, letter)) (head_of before ms)
-        head-whole letter h = ap (option_map (λ letter. (number, place, letter))) h ∙ placed
+        pub head-whole : (data_type : DataType) → Some data_type ≡ data_type_of ms → ◌≡◌ {A = Option Head} (Some (number, place, data_type)) (head_of before ms)
+        head-whole data_type h = ap (option_map (λ data_type. (number, place, data_type))) h ∙ placed
 
 -- a path at a key
 module _ (spaces : List Namespace) (key : List ℕ) (ms : Members) where
@@ -152,18 +154,18 @@ module _ (ms : Members) where
 -- a term by its head and its paths
 module _ (before : ℕ) (ms : Members) where
   abbrev pub made : Head → Option Paths → Option ExtTerm
-  made head o = option_map (λ paths. record { number = head.0; place = head.1; letter = head.2; paths = paths }) o
+  made head o = option_map (λ paths. record { number = head.0; place = head.1; data_type = head.2; paths = paths }) o
 
   pub term-no_head : None ≡ head_of before ms → None ≡ term_of before ms
   term-no_head h = ap (option_and_then (λ (head : Head). made head (paths_of ms))) h
 
-  module _ (number : ℕ) (place : ExtPlace) (letter : Letter) (at_head : ◌≡◌ {A = Option Head} (Some (number, place, letter)) (head_of before ms)) where
+  module _ (number : ℕ) (place : ExtPlace) (data_type : DataType) (at_head : ◌≡◌ {A = Option Head} (Some (number, place, data_type)) (head_of before ms)) where
     pub term-no_paths : None ≡ paths_of ms → None ≡ term_of before ms
-    term-no_paths h = ap (made (number, place, letter)) h ∙ ap (option_and_then (λ (head : Head). made head (paths_of ms))) at_head
+    term-no_paths h = ap (made (number, place, data_type)) h ∙ ap (option_and_then (λ (head : Head). made head (paths_of ms))) at_head
 
     pub term-whole : (paths : Paths) → Some paths ≡ paths_of ms →
-        Some (record { number = number; place = place; letter = letter; paths = paths }) ≡ term_of before ms
-    term-whole paths h = ap (made (number, place, letter)) h ∙ ap (option_and_then (λ (head : Head). made head (paths_of ms))) at_head
+        Some (record { number = number; place = place; data_type = data_type; paths = paths }) ≡ term_of before ms
+    term-whole paths h = ap (made (number, place, data_type)) h ∙ ap (option_and_then (λ (head : Head). made head (paths_of ms))) at_head
 
 pub ruleset bounds = (number-none, number-low, number-high, number-within)
 

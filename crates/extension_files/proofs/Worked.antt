@@ -2,7 +2,7 @@
 use Rattle.std.proofs.Common.{◌≡◌, ℕ, List, [], ◌∷◌, Option, Some, None, Result, Ok, Err, refl, codes}
 use Rattle.std.specs.Str.{chars, is_utf8}
 use Rattle.toml.proofs.OnLiterals.{toml_on_literals}
-use Rattle.term_table.specs.declared.terms.Letter.TheVariants as letters
+use Rattle.term_table.specs.declared.terms.DataType.TheVariants as data_types
 use Rattle.bind_rows.specs.declared.names.Namespace.TheVariants as spaces
 use Rattle.bind_rows.specs.declared.names.ElementName.{ElementName}
 use Rattle.extension_files.specs.declared.terms.ExtPlace.TheVariants as places
@@ -49,7 +49,7 @@ brand : ExtTerm
 brand = record {
   number = 1;
   place = places.Line;
-  letter = letters.T;
+  data_type = data_types.T;
   paths = record {
     ubl = Some (record { namespace = spaces.UblAggregate; local = codes "Item" } ∷ record { namespace = spaces.UblBasic; local = codes "BrandName" } ∷ []);
     credit_note = None;

@@ -29,7 +29,7 @@ are_paths paths =
 abbrev pub are_terms : ℕ → List ExtTerm → Bool
 are_terms before [] = true
 are_terms before (term ∷ terms) =
-    nat_lt before term.number && (nat_le term.number 99 && (not (is_base64 term.letter) && (are_paths term.paths && are_terms term.number terms)))
+    nat_lt before term.number && (nat_le term.number 99 && (not (is_base64 term.data_type) && (are_paths term.paths && are_terms term.number terms)))
 
 abbrev pub is_extension : List ExtTerm → Bool
 is_extension terms = are_terms 0 terms

@@ -2,14 +2,14 @@
 use Rattle.std.specs.Prelude.{ℕ, ℤ, pos, negsuc, Bool, ◌&&◌, ◌||◌, List, [], ◌∷◌, Option, Some, None, is_some, nat_lt, nat_le, codes, if◌then◌else◌}
 use Rattle.std.specs.Option.{option_map, option_and_then}
 use Rattle.toml.specs.Data.{Data, Members, get_member, as_str, as_integer}
-use Rattle.term_table.specs.declared.terms.Letter.{Letter}
+use Rattle.term_table.specs.declared.terms.DataType.{DataType}
 use Rattle.bind_rows.specs.declared.names.Namespace.{Namespace}
 use Rattle.bind_rows.specs.declared.names.Namespace.TheVariants as spaces
 use Rattle.bind_rows.specs.declared.names.ElementName.{ElementName}
 use Rattle.extension_files.specs.declared.terms.ExtPlace.{ExtPlace}
 use Rattle.extension_files.specs.declared.terms.ExtTerm.{ExtTerm}
 use Rattle.extension_files.specs.declared.terms.Paths.{Paths}
-use Rattle.extension_files.specs.Words.{place_named, letter_named}
+use Rattle.extension_files.specs.Words.{place_named, data_type_named}
 use Rattle.extension_files.specs.PathTexts.{path_of}
 use Rattle.code_lists.specs.Keys.{other_key}
 
@@ -40,20 +40,21 @@ number_of before ms = option_and_then (number_above before) (integer_at (codes "
 abbrev pub place_of : Members → Option ExtPlace
 place_of ms = option_and_then place_named (text_at (codes "place") ms)
 
-abbrev pub letter_of : Members → Option Letter
-letter_of ms = option_and_then letter_named (text_at (codes "type") ms)
+abbrev pub data_type_of : Members → Option DataType
+data_type_of ms = option_and_then data_type_named (text_at (codes "type") ms)
 
 -- what a table says of its term but its paths, if it says all of it
-abbrev pub head_in : ℕ → Members → Option (ℕ × ExtPlace × Letter)
+abbrev pub head_in : ℕ → Members → Option (ℕ × ExtPlace × DataType)
 head_in before ms =
-    option_and_then (λ number. option_and_then (λ place. option_map (λ letter. (number, place, letter)) (letter_of ms)) (place_of ms)) (number_of before ms)
+    option_and_then (λ number. option_and_then (λ place. option_map (λ data_type. (number, place, data_type)) (data_type_of ms)) (place_of ms)) (number_of
+        before ms)
 
 -- the first key that a term doesn't have
 abbrev pub other_key_of : Members → Option (List ℕ)
 other_key_of ms = other_key term_keys ms
 
 -- the same of a table without other keys
-abbrev pub head_of : ℕ → Members → Option (ℕ × ExtPlace × Letter)
+abbrev pub head_of : ℕ → Members → Option (ℕ × ExtPlace × DataType)
 head_of before ms = if is_some (other_key_of ms) then None else head_in before ms
 
 -- the path at a key, where the key is there; nothing where it has no path
@@ -80,5 +81,5 @@ paths_of ms =
 abbrev pub term_of : ℕ → Members → Option ExtTerm
 term_of before ms =
     option_and_then
-    (λ (head : ℕ × ExtPlace × Letter). option_map (λ paths. record { number = head.0; place = head.1; letter = head.2; paths = paths }) (paths_of ms))
+    (λ (head : ℕ × ExtPlace × DataType). option_map (λ paths. record { number = head.0; place = head.1; data_type = head.2; paths = paths }) (paths_of ms))
     (head_of before ms)

@@ -6,12 +6,12 @@ ghost use Rattle.extension_files.specs.TermTables as spec;
 use crate::keys::value_at;
 use crate::paths::path_of;
 use crate::terms::{ExtPlace, ExtTerm, Paths};
-use crate::words::{letter_named, place_named};
+use crate::words::{data_type_named, place_named};
 use bind_rows::{ElementName, Namespace};
 use code_lists::other_key;
 use inv_base::Many;
 use std::alloc::{AllocError, Global};
-use term_table::Letter;
+use term_table::DataType;
 use toml::Table;
 
 const UBL: [Namespace; 2] = [Namespace::UblAggregate, Namespace::UblBasic];
@@ -32,14 +32,14 @@ pub(crate) fn term_of(
 ) -> Result<Option<ExtTerm>, AllocError>
     ensures { IfOk result (λ term. term ≡ spec.term_of before (table_view table.now)) }
 {
-    let Some((number, place, letter)) = head_of(before, table) else {
+    let Some((number, place, data_type)) = head_of(before, table) else {
         return Ok(None);
     };
     match paths_of(alloc, table)? {
         Some(paths) => Ok(Some(ExtTerm {
             number,
             place,
-            letter,
+            data_type,
             paths,
         })),
         None => Ok(None),
@@ -48,7 +48,7 @@ pub(crate) fn term_of(
 
 // The number, the place and the type of the term, if the table has no other keys than those of a term.
 #[tactic(auto, using(crate::proofs::TableLemmas::heads))]
-fn head_of(before: u8, table: &Table) -> Option<(u8, ExtPlace, Letter)>
+fn head_of(before: u8, table: &Table) -> Option<(u8, ExtPlace, DataType)>
     ensures { result ≡ spec.head_of before (table_view table.now) }
 {
     if has_other_keys(table) {
@@ -56,8 +56,8 @@ fn head_of(before: u8, table: &Table) -> Option<(u8, ExtPlace, Letter)>
     }
     let number = number_of(before, table)?;
     let place = place_of(table)?;
-    let letter = letter_of(table)?;
-    Some((number, place, letter))
+    let data_type = data_type_of(table)?;
+    Some((number, place, data_type))
 }
 
 fn has_other_keys(table: &Table) -> bool
@@ -75,11 +75,11 @@ fn place_of(table: &Table) -> Option<ExtPlace>
     }
 }
 
-fn letter_of(table: &Table) -> Option<Letter>
-    ensures { result ≡ spec.letter_of (table_view table.now) }
+fn data_type_of(table: &Table) -> Option<DataType>
+    ensures { result ≡ spec.data_type_of (table_view table.now) }
 {
     match text_at(table, "type") {
-        Some(word) => letter_named(word),
+        Some(word) => data_type_named(word),
         None => None,
     }
 }

@@ -1,6 +1,6 @@
 use bind_rows::ElementName;
 use inv_base::Many;
-use term_table::Letter;
+use term_table::DataType;
 
 /// Where a term of an extension stands.
 #[derive(Clone, Copy, PartialEq, Eq)]
@@ -41,7 +41,7 @@ pub struct ExtTerm {
     pub number: u8,
     pub place: ExtPlace,
     /// The type of its value.
-    pub letter: Letter,
+    pub data_type: DataType,
     pub paths: Paths,
 }
 
@@ -50,7 +50,7 @@ impl Drop for ExtTerm {
         let ExtTerm {
             number: _,
             place: _,
-            letter: _,
+            data_type: _,
             paths,
         } = self;
         drop(paths);

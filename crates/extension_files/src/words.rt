@@ -3,19 +3,19 @@ ghost use Rattle.std.specs.Prelude.{◌≡◌};
 ghost use Rattle.extension_files.specs.Words as spec;
 
 use crate::terms::ExtPlace;
-use term_table::Letter;
+use term_table::DataType;
 
 const PLACES: [ExtPlace; 2] = [ExtPlace::Root, ExtPlace::Line];
 
 // The types of extension terms: all but that of attachments.
-const LETTERS: [Letter; 7] = [
-    Letter::T,
-    Letter::I,
-    Letter::C,
-    Letter::A,
-    Letter::Q,
-    Letter::P,
-    Letter::D,
+const LETTERS: [DataType; 7] = [
+    DataType::T,
+    DataType::I,
+    DataType::C,
+    DataType::A,
+    DataType::Q,
+    DataType::P,
+    DataType::D,
 ];
 
 fn word_of_place(place: ExtPlace) -> &'static str
@@ -37,27 +37,27 @@ pub(crate) fn place_named(word: &str) -> Option<ExtPlace>
         .find(|place| word_of_place(*place) == word)
 }
 
-fn word_of_letter(letter: Letter) -> &'static str
-    ensures { result.now ≡ spec.word_of_letter letter }
+fn word_of_letter(data_type: DataType) -> &'static str
+    ensures { result.now ≡ spec.word_of_letter data_type }
 {
-    match letter {
-        Letter::T => "T",
-        Letter::I => "I",
-        Letter::C => "C",
-        Letter::A => "A",
-        Letter::Q => "Q",
-        Letter::P => "P",
-        Letter::D => "D",
-        Letter::B => "B",
+    match data_type {
+        DataType::T => "T",
+        DataType::I => "I",
+        DataType::C => "C",
+        DataType::A => "A",
+        DataType::Q => "Q",
+        DataType::P => "P",
+        DataType::D => "D",
+        DataType::B => "B",
     }
 }
 
 /// The type for which the word stands, if it is one that an extension term may have.
-pub(crate) fn letter_named(word: &str) -> Option<Letter>
-    ensures { result ≡ spec.letter_named word.now }
+pub(crate) fn data_type_named(word: &str) -> Option<DataType>
+    ensures { result ≡ spec.data_type_named word.now }
 {
     LETTERS
         .iter()
         .copied()
-        .find(|letter| word_of_letter(*letter) == word)
+        .find(|data_type| word_of_letter(*data_type) == word)
 }

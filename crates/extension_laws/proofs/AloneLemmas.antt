@@ -6,7 +6,7 @@ use Rattle.std.specs.Cmp.Lexicographic.{pointwise}
 use Rattle.std.proofs.lemmas.Bool.{false≢true}
 use Rattle.term_table.specs.declared.groups.Group.{Group}
 use Rattle.term_table.specs.declared.terms.Term.{Term}
-use Rattle.term_table.specs.Rows.{is_base64, letter_of}
+use Rattle.term_table.specs.Rows.{is_base64, data_type_of}
 use Rattle.term_table.specs.SemanticModel.{is_extension, same_term}
 use Rattle.bind_rows.specs.declared.names.Leaf.{Leaf}
 use Rattle.bind_rows.specs.declared.names.Leaf.TheVariants as leaves
@@ -27,13 +27,13 @@ use Rattle.binding_laws.specs.Apart.{is_called, is_unguarded, Together, is_of_gr
 use Rattle.binding_laws.specs.Known.{is_trimmed, is_place_of, texts_of, texts_asked, is_presence_asked, unlike_of, is_main_of, together_by, together_of}
 use Rattle.binding_laws.specs.Known.{at_attributes, known_of}
 use Rattle.binding_laws.specs.Plain.{is_element, stands_nowhere_else}
-use Rattle.binding_laws.specs.Covered.{accounting_terms_of, accounting_terms, total_terms_of, total_terms, beside_filler, is_coded, is_coded_row}
+use Rattle.binding_laws.specs.Covered.{accounting_terms_of, accounting_terms, total_terms_of, total_terms, beside_placeholder, is_coded, is_coded_row}
 use Rattle.binding_laws.specs.Covered.{is_accounting_rule, is_total_rule}
 use Rattle.binding_laws.proofs.ReachLemmas.{Among}
 use Rattle.binding_laws.proofs.ListLemmas.{not-true}
 use Rattle.carrying_laws.proofs.ModelLemmas.{all-each}
 use Rattle.term_table.proofs.SeatLemmas.{same_term_is}
-use Rattle.term_table.specs.declared.terms.Letter.{Letter}
+use Rattle.term_table.specs.declared.terms.DataType.{DataType}
 use Rattle.extension_laws.specs.Joins.{Joins}
 use Rattle.extension_laws.specs.Ways.{part, are_unguarded}
 use Rattle.extension_laws.proofs.AddLemmas.{both, called-as-itself}
@@ -129,7 +129,7 @@ module _ (rows : List Row) (row : Row) (joins : Joins rows row) where
       by : (c : Content) (l : Leaf) → l ≡ leaves.Element → ◌≡◌ {A = List X} (elim c [
         | (contents.Term term) ↦ elim l [
           | leaves.Element ↦ []
-          | (leaves.Attribute local) ↦ elim (is_trimmed (letter_of term)) [ true ↦ f row term local | false ↦ [] ]
+          | (leaves.Attribute local) ↦ elim (is_trimmed (data_type_of term)) [ true ↦ f row term local | false ↦ [] ]
         ]
         | (contents.Constant text) ↦ []
       ]) []
@@ -142,7 +142,7 @@ module _ (rows : List Row) (row : Row) (joins : Joins rows row) where
   attributes-same f g r h = λ i. elim r.content [
     | (contents.Term term) ↦ elim r.leaf [
       | leaves.Element ↦ []
-      | (leaves.Attribute local) ↦ elim (is_trimmed (letter_of term)) [ true ↦ h term local i | false ↦ [] ]
+      | (leaves.Attribute local) ↦ elim (is_trimmed (data_type_of term)) [ true ↦ h term local i | false ↦ [] ]
     ]
     | (contents.Constant text) ↦ []
   ]
@@ -165,11 +165,11 @@ module _ (rows : List Row) (row : Row) (joins : Joins rows row) where
   -- ---- lists of terms
 
   abbrev pub beside_of : Written → List Term
-  beside_of w = elim w [ (written.OrFiller filler) ↦ filler.beside ∷ [] | _ ↦ [] ]
+  beside_of w = elim w [ (written.OrPlaceholder placeholder) ↦ placeholder.beside ∷ [] | _ ↦ [] ]
 
-  pub beside-same : flat_map beside_filler (rows ++ row ∷ []) ≡ flat_map beside_filler rows
+  pub beside-same : flat_map beside_placeholder (rows ++ row ∷ []) ≡ flat_map beside_placeholder rows
   beside-same =
-      flat-more beside_filler beside_filler rows row (λ x a. refl) (ap beside_of own.written)
+      flat-more beside_placeholder beside_placeholder rows row (λ x a. refl) (ap beside_of own.written)
 
   term-of-rule : (b : Bool) → b ≡ false
       → ◌≡◌ {A = List Term} (elim b [ true ↦ elim row.content [ (contents.Term term) ↦ term ∷ [] | (contents.Constant text) ↦ [] ] | false ↦ [] ]) []
@@ -203,15 +203,15 @@ module _ (rows : List Row) (row : Row) (joins : Joins rows row) where
 
   -- ---- its form
 
-  typed-form : (o : Option Letter) → added.is_added_type o ≡ true → is_some o ≡ true
+  typed-form : (o : Option DataType) → added.is_added_type o ≡ true → is_some o ≡ true
   typed-form None h = absurd (false≢true h)
   typed-form (Some l) h = refl
 
   pub form-typed : added.is_typed row.form ≡ true
-  form-typed = typed-form (added.letter_of_form row.form) own.typed
+  form-typed = typed-form (added.data_type_of_form row.form) own.typed
 
   -- a form of a type suits an added term
-  suited : (form : Form) (term : Term) → added.is_added_type (added.letter_of_form form) ≡ true → is_extension term ≡ true → form_for form term ≡ form
+  suited : (form : Form) (term : Term) → added.is_added_type (added.data_type_of_form form) ≡ true → is_extension term ≡ true → form_for form term ≡ form
   suited (forms.Typed l) term h k = ap (λ (b : Bool). elim b [ true ↦ forms.Typed l | false ↦ forms.Model ]) (ap (λ b. b && not (is_base64 l)) k ∙ h)
   suited forms.TypedPlainDate term h k = ap (λ (b : Bool). elim b [ true ↦ forms.TypedPlainDate | false ↦ forms.Model ]) k
   suited forms.Model term h k = absurd (false≢true h)

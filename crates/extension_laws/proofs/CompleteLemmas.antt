@@ -24,7 +24,7 @@ use Rattle.bind_meaning.specs.Picks.{term_in, has_term}
 use Rattle.bind_meaning.specs.Trees.{either}
 use Rattle.bind_meaning.specs.Values.{subject_code, form_for}
 use Rattle.bind_carrying.specs.Carrying.{bt}
-use Rattle.bind_carrying.specs.Tables.{which_of, is_ubl}
+use Rattle.bind_carrying.specs.Tables.{document_type_of, is_ubl}
 use Rattle.binding_laws.specs.Apart.{Known, unknown}
 use Rattle.binding_laws.specs.Known.{known_of}
 use Rattle.binding_laws.specs.Plain.{is_one, has_content, is_plain_in, is_plain_with, is_spread_in, is_spread_with}
@@ -33,7 +33,8 @@ use Rattle.binding_laws.proofs.ReachLemmas.{Among}
 use Rattle.binding_laws.proofs.ListLemmas.{not-true}
 use Rattle.carrying_laws.specs.Complete.{also, is_of, is_covered_for, is_writer, has_writer, stands_with, lets_beside, lets_all, is_if_iban, is_if_not_iban}
 use Rattle.carrying_laws.specs.Complete.{is_if_no_scheme, is_as_modelled, is_main, is_beside, has_attribute, is_note_of, is_coder, has_coder}
-use Rattle.carrying_laws.specs.Complete.{is_written_by_some, rows_with, is_written_in, writes_model, is_readable, reads_term, keeps_filler, is_kept_filler}
+use Rattle.carrying_laws.specs.Complete.{is_written_by_some, rows_with, is_written_in, writes_model, is_readable, reads_term, keeps_placeholder}
+use Rattle.carrying_laws.specs.Complete.{is_kept_placeholder}
 use Rattle.carrying_laws.specs.Complete.{keeps_known, keeps_notes, mistakes_none, is_plain_alone, adds_plainly, is_complete_in, is_complete}
 use Rattle.binding_laws.specs.Faultless.{is_if_scheme}
 use Rattle.carrying_laws.proofs.ModelLemmas.{all-each, each-all}
@@ -238,11 +239,11 @@ module _ (rows : List Row) (row : Row) (joins : Joins rows row) (long : All (λ 
       (all-each (λ (x : Row). either (not (added.is_added x)) (λ _. is_plain_alone was rows x)) rows h r a))
       (either-mono false (not (added.is_added row)) (λ _. true) (λ _. is_plain_alone now all row) (λ e. absurd (false≢true e)) (λ e. own-alone) refl)
 
-  keeps-own : keeps_filler ubl row ≡ true
+  keeps-own : keeps_placeholder ubl row ≡ true
   keeps-own =
       ap (λ (w : Written). elim w [
-        | (written.OrFiller filler) ↦ elim row.content [
-          | (contents.Term t) ↦ is_kept_filler ubl t filler
+        | (written.OrPlaceholder placeholder) ↦ elim row.content [
+          | (contents.Term t) ↦ is_kept_placeholder ubl t placeholder
           | (contents.Constant text) ↦ true
         ]
         | _ ↦ true
@@ -250,8 +251,8 @@ module _ (rows : List Row) (row : Row) (joins : Joins rows row) (long : All (λ 
 
   mistakes : mistakes_none known rows ubl ≡ true → mistakes_none known all ubl ≡ true
   mistakes =
-      and-mono (list_all (keeps_filler ubl) rows) _ (list_all (keeps_filler ubl) all) _
-      (λ h. all-more (keeps_filler ubl) rows row (all-each (keeps_filler ubl) rows h) keeps-own)
+      and-mono (list_all (keeps_placeholder ubl) rows) _ (list_all (keeps_placeholder ubl) all) _
+      (λ h. all-more (keeps_placeholder ubl) rows row (all-each (keeps_placeholder ubl) rows h) keeps-own)
       (and-mono (keeps_known known ubl) (keeps_notes rows ubl) (keeps_known known ubl) (keeps_notes all ubl) (λ e. e)
       (λ e. ap (λ b. ubl || not b) (any-same is_coded_row is_coded_row rows row (λ x a. refl) (uncoded rows row joins)) ∙ e))
 
@@ -264,9 +265,9 @@ module _ (rows : List Row) (row : Row) (joins : Joins rows row) (long : All (λ 
       (and-mono (adds_plainly was rows) (mistakes_none known rows ubl) (adds_plainly now all) (mistakes_none known all ubl) adds mistakes)))
 
 pub complete-more : (rows : List Row) (row : Row) (joins : Joins rows row) → All (λ (r : Row). 0 < length r.path) rows → unpaired_terms (plan_of rows) rows ≡ []
-    → left_out rows ≡ [] → left_out (rows ++ row ∷ []) ≡ [] → which_of (rows ++ row ∷ []) ≡ which_of rows → is_complete rows ≡ true
+    → left_out rows ≡ [] → left_out (rows ++ row ∷ []) ≡ [] → document_type_of (rows ++ row ∷ []) ≡ document_type_of rows → is_complete rows ≡ true
     → is_complete (rows ++ row ∷ []) ≡ true
-complete-more rows row joins long paired left left_more which h =
-    (λ i. is_complete_in (plan_of (rows ++ row ∷ [])) (known-same rows row joins i) (left_more i) (rows ++ row ∷ []) (is_ubl (which i)))
-    ∙ complete-in rows row joins long paired (known_of rows) (is_ubl (which_of rows))
-    ((λ i. is_complete_in (plan_of rows) (known_of rows) (sym left i) rows (is_ubl (which_of rows))) ∙ h)
+complete-more rows row joins long paired left left_more document_type h =
+    (λ i. is_complete_in (plan_of (rows ++ row ∷ [])) (known-same rows row joins i) (left_more i) (rows ++ row ∷ []) (is_ubl (document_type i)))
+    ∙ complete-in rows row joins long paired (known_of rows) (is_ubl (document_type_of rows))
+    ((λ i. is_complete_in (plan_of rows) (known_of rows) (sym left i) rows (is_ubl (document_type_of rows))) ∙ h)

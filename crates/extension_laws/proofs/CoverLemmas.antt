@@ -7,12 +7,12 @@ use Rattle.std.specs.Cmp.Lexicographic.{pointwise}
 use Rattle.std.proofs.lemmas.Bool.{false≢true}
 use Rattle.term_table.specs.declared.terms.Term.{Term}
 use Rattle.term_table.specs.Groups.{same_group}
-use Rattle.term_table.specs.Rows.{letter_of}
+use Rattle.term_table.specs.Rows.{data_type_of}
 use Rattle.bind_rows.specs.declared.names.Leaf.{Leaf}
 use Rattle.bind_rows.specs.declared.names.Leaf.TheVariants as leaves
 use Rattle.bind_rows.specs.declared.rows.Content.{Content}
 use Rattle.bind_rows.specs.declared.rows.Content.TheVariants as contents
-use Rattle.bind_rows.specs.declared.rows.Filler.{Filler}
+use Rattle.bind_rows.specs.declared.rows.Placeholder.{Placeholder}
 use Rattle.bind_rows.specs.declared.rows.Row.{Row}
 use Rattle.bind_rows.specs.declared.rows.Written.{Written}
 use Rattle.bind_rows.specs.declared.rows.Written.TheVariants as written
@@ -31,9 +31,9 @@ use Rattle.binding_laws.specs.Plain.{rows_at, groups_of, listed, is_one, is_elem
 use Rattle.binding_laws.specs.Plain.{is_of_one_term, stands_there, is_plain_there, is_plain_with, is_plain_in, is_plain_by, is_part_named}
 use Rattle.binding_laws.specs.Plain.{is_plain_attribute_with, is_plain_beside, is_spread_with, is_spread_in, is_spread_by, is_spread_attribute_in}
 use Rattle.binding_laws.specs.Plain.{is_spread_beside}
-use Rattle.binding_laws.specs.Covered.{is_or_filler, is_filled_in, is_filled_by, is_total_rule, is_accounting_rule, accounting_terms_of, accounting_terms}
-use Rattle.binding_laws.specs.Covered.{total_terms, is_total_there, beside_filler, is_half, are_pair, is_of_pair, is_pair_in, is_pair_by, unpaired_terms}
-use Rattle.binding_laws.specs.Covered.{is_total_in, is_total_by, are_beside, is_row_beside, is_told_filler, is_joined, unjoined_terms, is_known_beside}
+use Rattle.binding_laws.specs.Covered.{is_or_placeholder, is_filled_in, is_filled_by, is_total_rule, is_accounting_rule, accounting_terms_of, accounting_terms}
+use Rattle.binding_laws.specs.Covered.{total_terms, is_total_there, beside_placeholder, is_half, are_pair, is_of_pair, is_pair_in, is_pair_by, unpaired_terms}
+use Rattle.binding_laws.specs.Covered.{is_total_in, is_total_by, are_beside, is_row_beside, is_told_placeholder, is_joined, unjoined_terms, is_known_beside}
 use Rattle.binding_laws.specs.Covered.{is_known_by, is_coded, is_noted_in, is_noted_by, is_covered_in}
 use Rattle.binding_laws.proofs.ReachLemmas.{Among}
 use Rattle.extension_laws.specs.Joins.{Joins}
@@ -52,17 +52,17 @@ pub if-mono : (a b c : Bool) → (b ≡ true → c ≡ true) → elim a [ true �
 if-mono true b c h e = h e
 if-mono false b c h e = absurd (false≢true e)
 
-pub filler-mono : (f g : Filler → Bool) → ((x : Filler) → f x ≡ true → g x ≡ true) → (w : Written)
-    → elim w [ (written.OrFiller x) ↦ f x | _ ↦ false ] ≡ true → elim w [ (written.OrFiller x) ↦ g x | _ ↦ false ] ≡ true
-filler-mono f g h (written.OrFiller x) e = h x e
-filler-mono f g h written.Always e = absurd (false≢true e)
-filler-mono f g h written.Never e = absurd (false≢true e)
-filler-mono f g h written.IfIban e = absurd (false≢true e)
-filler-mono f g h written.IfNotIban e = absurd (false≢true e)
-filler-mono f g h written.IfScheme e = absurd (false≢true e)
-filler-mono f g h written.IfNoScheme e = absurd (false≢true e)
-filler-mono f g h written.VatTotal e = absurd (false≢true e)
-filler-mono f g h written.AccountingVatTotal e = absurd (false≢true e)
+pub placeholder-mono : (f g : Placeholder → Bool) → ((x : Placeholder) → f x ≡ true → g x ≡ true) → (w : Written)
+    → elim w [ (written.OrPlaceholder x) ↦ f x | _ ↦ false ] ≡ true → elim w [ (written.OrPlaceholder x) ↦ g x | _ ↦ false ] ≡ true
+placeholder-mono f g h (written.OrPlaceholder x) e = h x e
+placeholder-mono f g h written.Always e = absurd (false≢true e)
+placeholder-mono f g h written.Never e = absurd (false≢true e)
+placeholder-mono f g h written.IfIban e = absurd (false≢true e)
+placeholder-mono f g h written.IfNotIban e = absurd (false≢true e)
+placeholder-mono f g h written.IfScheme e = absurd (false≢true e)
+placeholder-mono f g h written.IfNoScheme e = absurd (false≢true e)
+placeholder-mono f g h written.VatTotal e = absurd (false≢true e)
+placeholder-mono f g h written.AccountingVatTotal e = absurd (false≢true e)
 
 module _ (rows : List Row) (row : Row) (joins : Joins rows row) (long : All (λ (r : Row). 0 < length r.path) rows) where
   abbrev all : List Row
@@ -134,7 +134,7 @@ module _ (rows : List Row) (row : Row) (joins : Joins rows row) (long : All (λ 
       (is_whole (form_for r.form t) && (is_of_one_term (form_for r.form t) && is_always r.written))))))))
 
   pub filled-stays : (r : Row) (t : Term) → Among r rows → is_filled_in now r t ≡ is_filled_in was r t
-  filled-stays r t a = λ i. elim (is_or_filler r.written) [
+  filled-stays r t a = λ i. elim (is_or_placeholder r.written) [
     | true ↦ apart unknown r a i
         && (is_one (ending is_at_element r a i)
         && (is_element r.leaf && (has_content t r.content &&
@@ -191,30 +191,33 @@ module _ (rows : List Row) (row : Row) (joins : Joins rows row) (long : All (λ 
   paired-more none = unless-more (is_of_pair was rows) (is_of_pair now all) accounting_terms_of rows row (λ r a h. of-pair-stays r a h)
       (no-accounting rows row joins) none
 
-  -- ---- fillers
+  -- ---- placeholders
 
-  row-beside-stays : (r : Row) (filler : Filler) (o : Row) → Among o rows → is_row_beside was r filler o ≡ true → is_row_beside now r filler o ≡ true
-  row-beside-stays r filler o a h = (λ i. spread-stays unknown o filler.beside a i && (is_always o.written && are_beside r.path o.path)) ∙ h
+  row-beside-stays : (r : Row) (placeholder : Placeholder) (o : Row) → Among o rows → is_row_beside was r placeholder o ≡ true
+      → is_row_beside now r placeholder o ≡ true
+  row-beside-stays r placeholder o a h = (λ i. spread-stays unknown o placeholder.beside a i && (is_always o.written && are_beside r.path o.path)) ∙ h
 
-  told-stays : (r : Row) (t : Term) (filler : Filler) → is_told_filler was rows r t filler ≡ true → is_told_filler now all r t filler ≡ true
-  told-stays r t filler h =
-      and-mono (list_any (is_row_beside was r filler) rows) _ (list_any (is_row_beside now r filler) all) _
-      (any-front (is_row_beside was r filler) (is_row_beside now r filler) rows (row ∷ []) (λ o a e. row-beside-stays r filler o a e))
-      (λ e. (λ i. bytes_eq (trimmed filler.text) filler.text
+  told-stays : (r : Row) (t : Term) (placeholder : Placeholder) → is_told_placeholder was rows r t placeholder ≡ true
+      → is_told_placeholder now all r t placeholder ≡ true
+  told-stays r t placeholder h =
+      and-mono (list_any (is_row_beside was r placeholder) rows) _ (list_any (is_row_beside now r placeholder) all) _
+      (any-front (is_row_beside was r placeholder) (is_row_beside now r placeholder) rows (row ∷ []) (λ o a e. row-beside-stays r placeholder o a e))
+      (λ e. (λ i. bytes_eq (trimmed placeholder.text) placeholder.text
       && (is_model (form_for r.form t)
-      && (is_trimmed (letter_of t)
+      && (is_trimmed (data_type_of t)
       && (not (has_term invoice_currency r || has_term accounting_currency r) && not (list_any (λ u. has_term u r) (beside-same rows row joins i)))))) ∙ e) h
 
   joined-stays : (r : Row) → is_joined was rows r ≡ true → is_joined now all r ≡ true
   joined-stays r h =
-      content-mono (λ t. elim r.written [ (written.OrFiller filler) ↦ is_told_filler was rows r t filler | _ ↦ false ])
-      (λ t. elim r.written [ (written.OrFiller filler) ↦ is_told_filler now all r t filler | _ ↦ false ])
-      (λ t e. filler-mono (is_told_filler was rows r t) (is_told_filler now all r t) (λ filler k. told-stays r t filler k) r.written e) r.content h
+      content-mono (λ t. elim r.written [ (written.OrPlaceholder placeholder) ↦ is_told_placeholder was rows r t placeholder | _ ↦ false ])
+      (λ t. elim r.written [ (written.OrPlaceholder placeholder) ↦ is_told_placeholder now all r t placeholder | _ ↦ false ])
+      (λ t e. placeholder-mono (is_told_placeholder was rows r t) (is_told_placeholder now all r t) (λ placeholder k. told-stays r t placeholder k) r.written
+          e) r.content h
 
   pub joined-more : unjoined_terms was rows ≡ [] → unjoined_terms now all ≡ []
   joined-more none =
-      unless-more (is_joined was rows) (is_joined now all) beside_filler rows row (λ r a h. joined-stays r h)
-      (ap (λ (w : Written). elim w [ (written.OrFiller filler) ↦ filler.beside ∷ [] | _ ↦ [] ]) (is rows row joins).written) none
+      unless-more (is_joined was rows) (is_joined now all) beside_placeholder rows row (λ r a h. joined-stays r h)
+      (ap (λ (w : Written). elim w [ (written.OrPlaceholder placeholder) ↦ placeholder.beside ∷ [] | _ ↦ [] ]) (is rows row joins).written) none
 
   -- ---- by what is known, and notes
 

@@ -10,8 +10,8 @@ use Rattle.term_table.specs.SemanticModel.{is_extension as is_extension_term}
 use Rattle.bind_rows.specs.declared.rows.Content.{Content}
 use Rattle.bind_rows.specs.declared.rows.Content.TheVariants as contents
 use Rattle.bind_rows.specs.declared.rows.Row.{Row}
-use Rattle.bind_rows.specs.declared.tables.Which.{Which}
-use Rattle.bind_rows.specs.declared.tables.Which.TheVariants as which
+use Rattle.bind_rows.specs.declared.tables.DocumentType.{DocumentType}
+use Rattle.bind_rows.specs.declared.tables.DocumentType.TheVariants as document_type
 use Rattle.bind_rows.specs.Added.{adds_term, is_added, is_built, built}
 use Rattle.bind_rows.specs.Same.{choose}
 use Rattle.extension_files.specs.declared.terms.ExtTerm.{ExtTerm}
@@ -49,7 +49,7 @@ nothing-behind : (xs : List Row) → xs ++ [] ≡ xs
 nothing-behind [] = refl
 nothing-behind (x ∷ xs) = ap (λ l. x ∷ l) (nothing-behind xs)
 
-behind : (table : Which) (terms : List AddedTerm) (before : ℕ) (rows : List Row) → Rising table before terms → Behind rows (extended table rows terms)
+behind : (table : DocumentType) (terms : List AddedTerm) (before : ℕ) (rows : List Row) → Rising table before terms → Behind rows (extended table rows terms)
 behind table [] before rows rise = record { back = []; is = sym (nothing-behind rows); all = λ r a. absurd a }
 behind table (a ∷ terms) before rows rise =
     let row = added_row table rows a in
@@ -237,12 +237,13 @@ own-cii : list_all is_built cii_rows ≡ true
 unfolding cii_listing cii_rows
 own-cii = refl
 
-own-rows : (table : Which) → list_all is_built (rows_of table) ≡ true
-own-rows which.Invoice = own-invoice
-own-rows which.CreditNote = own-credit_note
-own-rows which.Cii = own-cii
+own-rows : (table : DocumentType) → list_all is_built (rows_of table) ≡ true
+own-rows document_type.Invoice = own-invoice
+own-rows document_type.CreditNote = own-credit_note
+own-rows document_type.Cii = own-cii
 
-pub extension-fault : ((table : Which) → first_fault (rows_of table) ≡ Ok tt) → (table : Which) (e : List ExtTerm) (fault : TableFault) → is_extension e ≡ true
+pub extension-fault : ((table : DocumentType) → first_fault (rows_of table) ≡ Ok tt) → (table : DocumentType) (e : List ExtTerm) (fault : TableFault)
+    → is_extension e ≡ true
     → first_fault (rows_for e table) ≡ Err fault → IsOfTerm (length (rows_of table)) (rows_for e table) fault
 extension-fault formed table e fault h bad =
     let b = behind table (terms_for table e) 0 (rows_of table) (rising table e h) in

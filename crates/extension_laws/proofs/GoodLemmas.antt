@@ -4,7 +4,7 @@ use Rattle.std.proofs.Common.{append_assoc}
 use Rattle.std.specs.Prelude.{slice_get}
 use Rattle.std.specs.List.{list_all}
 use Rattle.bind_rows.specs.declared.rows.Row.{Row}
-use Rattle.bind_rows.specs.declared.tables.Which.{Which}
+use Rattle.bind_rows.specs.declared.tables.DocumentType.{DocumentType}
 use Rattle.bind_rows.specs.Added.{is_added, built}
 use Rattle.bind_rows.specs.Same.{choose}
 use Rattle.bind_table.specs.Crossings.{part_by_name}
@@ -25,7 +25,7 @@ pub record Front (rows whole : List Row) : Type 0 where
   pub back : List Row
   pub is : whole ≡ rows ++ back
 
-pub extended-front : (table : Which) (terms : List AddedTerm) (rows : List Row) → Front rows (extended table rows terms)
+pub extended-front : (table : DocumentType) (terms : List AddedTerm) (rows : List Row) → Front rows (extended table rows terms)
 extended-front table [] rows = record { back = []; is = sym (nothing-behind rows) }
   where
     nothing-behind : (xs : List Row) → xs ++ [] ≡ xs

@@ -76,7 +76,7 @@ pub record IsAddedRow (row : Row) : Type 0 where
   pub free : are_unguarded row.path ≡ true
   pub written : row.written ≡ written.Always
   pub check : row.check ≡ checks.Nothing
-  pub typed : added.is_added_type (added.letter_of_form row.form) ≡ true
+  pub typed : added.is_added_type (added.data_type_of_form row.form) ≡ true
 
 leaf-is : (leaf : Leaf) → added.is_element leaf ≡ true → leaf ≡ leaves.Element
 leaf-is leaves.Element h = refl
@@ -89,7 +89,7 @@ written-is written.IfIban h = absurd (false≢true h)
 written-is written.IfNotIban h = absurd (false≢true h)
 written-is written.IfScheme h = absurd (false≢true h)
 written-is written.IfNoScheme h = absurd (false≢true h)
-written-is (written.OrFiller filler) h = absurd (false≢true h)
+written-is (written.OrPlaceholder placeholder) h = absurd (false≢true h)
 written-is written.VatTotal h = absurd (false≢true h)
 written-is written.AccountingVatTotal h = absurd (false≢true h)
 
@@ -117,7 +117,7 @@ added-row row h =
     let d = both (list_all added.is_unguarded row.path) _ c.1 in
     let e = both (added.is_once row.repeats) _ d.1 in
     let f = both (added.is_always row.written) _ e.1 in
-    let g = both (added.is_unjudged row.check) (added.is_added_type (added.letter_of_form row.form)) f.1 in
+    let g = both (added.is_unjudged row.check) (added.is_added_type (added.data_type_of_form row.form)) f.1 in
     record {
       extension = a.0;
       place = b.0;

@@ -13,8 +13,8 @@ use Rattle.bind_rows.specs.declared.rows.Content.{Content}
 use Rattle.bind_rows.specs.declared.rows.Content.TheVariants as contents
 use Rattle.bind_rows.specs.declared.rows.Row.{Row}
 use Rattle.bind_rows.specs.declared.rows.Step.{Step}
-use Rattle.bind_rows.specs.declared.tables.Which.{Which}
-use Rattle.bind_rows.specs.declared.tables.Which.TheVariants as which
+use Rattle.bind_rows.specs.declared.tables.DocumentType.{DocumentType}
+use Rattle.bind_rows.specs.declared.tables.DocumentType.TheVariants as document_type
 use Rattle.bind_rows.specs.Added.{is_added, built}
 use Rattle.extension_files.specs.declared.terms.ExtTerm.{ExtTerm}
 use Rattle.extension_files.specs.Extensions.{is_extension}
@@ -43,7 +43,7 @@ use Rattle.extension_laws.proofs.ShowLemmas.{rooted-more, one-root-more, namespa
 
 -- ---- what holds of the rows at each front
 
-record Ready (table : Which) (before : ℕ) (rows : List Row) : Type 0 where
+record Ready (table : DocumentType) (before : ℕ) (rows : List Row) : Type 0 where
   own : built rows ≡ rows_of table
   long : All (λ (r : Row). 0 < length r.path) rows
   one : is_one_root (plan_of rows) ≡ true
@@ -56,7 +56,7 @@ record Ready (table : Which) (before : ℕ) (rows : List Row) : Type 0 where
 
 -- ---- the row of the next term joins them
 
-module _ (table : Which) (before : ℕ) (rows back : List Row) (a : AddedTerm) (ready : Ready table before rows) (low : before < a.number)
+module _ (table : DocumentType) (before : ℕ) (rows back : List Row) (a : AddedTerm) (ready : Ready table before rows) (low : before < a.number)
     (file : IsOfFile table a)
     (fine : first_fault (rows ++ added_row table rows a ∷ back) ≡ Ok tt) where
   abbrev row : Row
@@ -124,7 +124,7 @@ other-number m n l = by ((1000 + m) == (1000 + n)) refl
     by false e = refl
     by true e = let z = eqb-true (1000 + m) (1000 + n) e in let w : ⊥ = omega (arith, z, l) in absurd w
 
-ready-more : (table : Which) (before : ℕ) (rows : List Row) (a : AddedTerm) → Ready table before rows → before < a.number → IsOfFile table a
+ready-more : (table : DocumentType) (before : ℕ) (rows : List Row) (a : AddedTerm) → Ready table before rows → before < a.number → IsOfFile table a
     → Joins rows (added_row table rows a)
     → Ready table a.number (rows ++ added_row table rows a ∷ [])
 ready-more table before rows a ready low file joins =
@@ -142,7 +142,7 @@ ready-more table before rows a ready low file joins =
           (all-each (λ (other : Row). not (has_term (added_term n) other)) rows (ready.unused n (omega (arith, low, above)))) (other-number a.number n above);
     }
 
-join-each : (table : Which) (terms : List AddedTerm) (before : ℕ) (rows : List Row) → Rising table before terms → Ready table before rows
+join-each : (table : DocumentType) (terms : List AddedTerm) (before : ℕ) (rows : List Row) → Rising table before terms → Ready table before rows
     → first_fault (extended table rows terms) ≡ Ok tt
     → JoinEach table rows terms
 join-each table [] before rows rise ready fine = tt
@@ -167,10 +167,10 @@ one-cii : is_one_root (plan_of cii_rows) ≡ true
 unfolding cii_listing cii_rows
 one-cii = refl
 
-one-each : (table : Which) → is_one_root (plan_of (rows_of table)) ≡ true
-one-each which.Invoice = one-invoice
-one-each which.CreditNote = one-credit_note
-one-each which.Cii = one-cii
+one-each : (table : DocumentType) → is_one_root (plan_of (rows_of table)) ≡ true
+one-each document_type.Invoice = one-invoice
+one-each document_type.CreditNote = one-credit_note
+one-each document_type.Cii = one-cii
 
 root-invoice : root_namespace invoice_rows ≡ Some spaces.UblInvoice
 unfolding invoice_listing invoice_rows
@@ -184,10 +184,10 @@ root-cii : root_namespace cii_rows ≡ Some spaces.CiiInvoice
 unfolding cii_listing cii_rows
 root-cii = refl
 
-root-each : (table : Which) → root_namespace (rows_of table) ≡ Some (root_for table)
-root-each which.Invoice = root-invoice
-root-each which.CreditNote = root-credit_note
-root-each which.Cii = root-cii
+root-each : (table : DocumentType) → root_namespace (rows_of table) ≡ Some (root_for table)
+root-each document_type.Invoice = root-invoice
+root-each document_type.CreditNote = root-credit_note
+root-each document_type.Cii = root-cii
 
 -- their terms have low numbers
 abbrev has_low_term : Content → Bool
@@ -209,10 +209,10 @@ low-cii : are_low cii_rows ≡ true
 unfolding cii_listing cii_rows
 low-cii = refl
 
-low-each : (table : Which) → are_low (rows_of table) ≡ true
-low-each which.Invoice = low-invoice
-low-each which.CreditNote = low-credit_note
-low-each which.Cii = low-cii
+low-each : (table : DocumentType) → are_low (rows_of table) ≡ true
+low-each document_type.Invoice = low-invoice
+low-each document_type.CreditNote = low-credit_note
+low-each document_type.Cii = low-cii
 
 record NotEmpty (rows : List Row) : Type 0 where
   first : Row
@@ -238,7 +238,7 @@ low-other (contents.Term term) n h = by (term.number == (1000 + n)) refl
         let w : ⊥ = omega (arith, z, l) in
         absurd w
 
-ready-first : (table : Which) → Ready table 0 (rows_of table)
+ready-first : (table : DocumentType) → Ready table 0 (rows_of table)
 ready-first table =
     let w = both (nat_lt 0 (length (rows_of table))) (list_all (λ (row : Row). has_low_term row.content) (rows_of table)) (low-each table) in
     let x = not-empty (rows_of table) w.0 in
@@ -254,6 +254,6 @@ ready-first table =
           (λ r there. low-other r.content n (all-each (λ (row : Row). has_low_term row.content) (rows_of table) w.1 r there));
     }
 
-pub extension-joins : (table : Which) (e : List ExtTerm) → is_extension e ≡ true → first_fault (rows_for e table) ≡ Ok tt
+pub extension-joins : (table : DocumentType) (e : List ExtTerm) → is_extension e ≡ true → first_fault (rows_for e table) ≡ Ok tt
     → JoinEach table (rows_of table) (terms_for table e)
 extension-joins table e h fine = join-each table (terms_for table e) 0 (rows_of table) (rising table e h) (ready-first table) fine

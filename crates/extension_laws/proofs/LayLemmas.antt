@@ -4,7 +4,7 @@ use Rattle.std.specs.List.{list_all}
 use Rattle.bind_rows.specs.declared.names.Namespace.{Namespace}
 use Rattle.bind_rows.specs.declared.rows.Step.{Step}
 use Rattle.bind_rows.specs.declared.rows.Row.{Row}
-use Rattle.bind_table.specs.Laid.{element_numbers, are_distinct, end_apart, is_ncname, is_declared, is_writable_leaf, is_laid_plan, is_laid}
+use Rattle.bind_table.specs.Laid.{element_numbers, are_distinct, end_apart, is_ncname, is_declared, is_writable_leaf, is_writable_plan, is_writable}
 use Rattle.bind_table.specs.Lines.{Cell, Plan, nothing, a_line, own_cells, add, plan_of}
 use Rattle.bind_write.specs.Documents.{namespace_of}
 use Rattle.binding_laws.proofs.ListLemmas.{append-nil}
@@ -39,7 +39,7 @@ writable-fine root cell leaf (s ∷ u ∷ q) h =
     let w = both (can_be_written root s) (list_all (can_be_written root) (u ∷ q)) h in
     (and-true (can_be_written root s) true w.0 refl, writable-fine root cell leaf (u ∷ q) w.1)
 
-laid-is : (s : Step) (cells : List Cell) (inside : Plan) → is_laid_plan (a_line s cells inside nothing)
+laid-is : (s : Step) (cells : List Cell) (inside : Plan) → is_writable_plan (a_line s cells inside nothing)
     ≡ (are_distinct (element_numbers (a_line s cells inside nothing)) &&
     (all_lines ends_test (a_line s cells inside nothing) && all_lines (is_writable_line s.name.namespace) (a_line s cells inside nothing)))
 laid-is s cells inside = λ i.
@@ -47,7 +47,7 @@ laid-is s cells inside = λ i.
     && (ends-lines (a_line s cells inside nothing) i && writable-lines s.name.namespace (a_line s cells inside nothing) i)
 
 pub laid-more : (rows : List Row) (row : Row) (joins : Joins rows row) → All (λ (r : Row). 0 < length r.path) rows → is_one_root (plan_of rows) ≡ true
-    → is_laid rows ≡ true → is_laid (rows ++ row ∷ []) ≡ true
+    → is_writable rows ≡ true → is_writable (rows ++ row ∷ []) ≡ true
 laid-more rows row joins long one h =
     let r = rooted-more rows row joins long one in
     let cell : Cell = record { number = 0 + length rows; row = row } in
@@ -57,7 +57,7 @@ laid-more rows row joins long one h =
     let was : (are_distinct (element_numbers (plan_of rows)) && (all_lines ends_test (plan_of rows) && all_lines (is_writable_line root) (plan_of rows))) ≡ true
     =
     (λ i. are_distinct (element_numbers (r.was i)) && (all_lines ends_test (r.was i) && all_lines (is_writable_line root) (r.was i)))
-    ∙ (sym (laid-is r.step r.cells r.inside) ∙ (sym (ap is_laid_plan r.was) ∙ h)) in
+    ∙ (sym (laid-is r.step r.cells r.inside) ∙ (sym (ap is_writable_plan r.was) ∙ h)) in
     let a = both (are_distinct (element_numbers (plan_of rows))) (all_lines ends_test (plan_of rows) && all_lines (is_writable_line root) (plan_of rows)) was in
     let b = both (all_lines ends_test (plan_of rows)) (all_lines (is_writable_line root) (plan_of rows)) a.1 in
     let leaves = subst (λ p. leaves_by_name p (plan_of rows) ≡ true) r.path (leaves-lines rows row joins long) in
@@ -69,7 +69,7 @@ laid-more rows row joins long one h =
     let distinct = distinct-add joins.top row.path cell (plan_of rows) joins.fresh joins.below a.0 in
     let grown : now ≡ add row.path cell (plan_of rows) = plan-more rows row in
     let grown_so : now ≡ add (r.step ∷ r.steps) cell (plan_of rows) = grown ∙ ap (λ p. add p cell (plan_of rows)) r.path in
-    ap is_laid_plan r.is
+    ap is_writable_plan r.is
     ∙ (laid-is r.step (own_cells r.steps cell r.cells) (add r.steps cell r.inside)
     ∙ ((λ i. are_distinct (element_numbers (sym r.is i)) && (all_lines ends_test (sym r.is i) && all_lines (is_writable_line root) (sym r.is i)))
     ∙ and-true (are_distinct (element_numbers now)) (all_lines ends_test now && all_lines (is_writable_line root) now)

@@ -18,8 +18,8 @@ use Rattle.bind_rows.specs.declared.names.Namespace.{Namespace}
 use Rattle.bind_rows.specs.declared.names.Namespace.TheVariants as spaces
 use Rattle.bind_rows.specs.declared.rows.Row.{Row}
 use Rattle.bind_rows.specs.declared.rows.Step.{Step}
-use Rattle.bind_rows.specs.declared.tables.Which.{Which}
-use Rattle.bind_rows.specs.declared.tables.Which.TheVariants as which
+use Rattle.bind_rows.specs.declared.tables.DocumentType.{DocumentType}
+use Rattle.bind_rows.specs.declared.tables.DocumentType.TheVariants as document_type
 use Rattle.bind_rows.specs.Added.{built}
 use Rattle.bind_rows.specs.Namespaces.{declarations_of}
 use Rattle.bind_rows.specs.Same.{same_namespace}
@@ -84,13 +84,13 @@ goes-by false false true true r x y z h = refl
 goes-by false false true false r x y z h = refl
 goes-by false false false m r x y z h = absurd (false≢true h)
 
-letter-begins : (c : ℕ) → is_ascii_alphabetic c ≡ true → is_name_start c ≡ true
+data_type-begins : (c : ℕ) → is_ascii_alphabetic c ≡ true → is_name_start c ≡ true
 unfolding is_name_start
-letter-begins c h = begins-by (is_within 0x41 0x5A c) (is_within 0x61 0x7A c) (c == 0x5F) (further_starts c) h
+data_type-begins c h = begins-by (is_within 0x41 0x5A c) (is_within 0x61 0x7A c) (c == 0x5F) (further_starts c) h
 
-letter-goes-on : (c : ℕ) → is_ascii_alphanumeric c ≡ true → is_name_char c ≡ true
+data_type-goes-on : (c : ℕ) → is_ascii_alphanumeric c ≡ true → is_name_char c ≡ true
 unfolding is_name_start is_name_char
-letter-goes-on c h =
+data_type-goes-on c h =
     goes-by (is_within 0x30 0x39 c) (is_within 0x41 0x5A c) (is_within 0x61 0x7A c) (c == 0x5F) (further_starts c) (c == 0x2D) (c == 0x2E) (further_chars c) h
 
 -- none of them is a colon
@@ -136,13 +136,13 @@ local-is (c ∷ cs) h =
     let rest = both (nat_le (length cs) 99) (list_all is_ascii_alphanumeric cs) first.1 in
     let few = leb-true (length cs) 99 rest.0 in
     record {
-      written = and-so (is_name_start c) (list_all is_name_char cs) (letter-begins c first.0)
-          (all-mono is_ascii_alphanumeric is_name_char cs letter-goes-on rest.1);
+      written = and-so (is_name_start c) (list_all is_name_char cs) (data_type-begins c first.0)
+          (all-mono is_ascii_alphanumeric is_name_char cs data_type-goes-on rest.1);
       plain =
           and-so (is_plain_start c) (list_all is_plain_char cs)
-          (and-so (is_name_start c) (not (c == 0x3A)) (letter-begins c first.0) (no-colon is_ascii_alphabetic c refl first.0))
+          (and-so (is_name_start c) (not (c == 0x3A)) (data_type-begins c first.0) (no-colon is_ascii_alphabetic c refl first.0))
           (all-mono is_ascii_alphanumeric is_plain_char cs
-          (λ d k. and-so (is_name_char d) (not (d == 0x3A)) (letter-goes-on d k) (no-colon is_ascii_alphanumeric d refl k)) rest.1);
+          (λ d k. and-so (is_name_char d) (not (d == 0x3A)) (data_type-goes-on d k) (no-colon is_ascii_alphanumeric d refl k)) rest.1);
       low = and-so (nat_lt c 128) (list_all (λ c. nat_lt c 128) cs) (alphabetic-low c first.0)
           (all-mono is_ascii_alphanumeric (λ c. nat_lt c 128) cs alphanumeric-low rest.1);
       few = omega (arith, few);
@@ -172,10 +172,10 @@ short prefix local low few l =
 
 -- ---- the names of a table's documents
 
-abbrev pub root_for : Which → Namespace
-root_for which.Invoice = spaces.UblInvoice
-root_for which.CreditNote = spaces.UblCreditNote
-root_for which.Cii = spaces.CiiInvoice
+abbrev pub root_for : DocumentType → Namespace
+root_for document_type.Invoice = spaces.UblInvoice
+root_for document_type.CreditNote = spaces.UblCreditNote
+root_for document_type.Cii = spaces.CiiInvoice
 
 abbrev can_be_named : Namespace → ElementName → Bool
 can_be_named root name = is_element_name (declarations_of root) (name_of name) && is_short reading_limits (element_name (declarations_of root) (name_of name))
@@ -197,41 +197,41 @@ fits-by prefix local low few l =
 abbrev named : Namespace → List ℕ → ElementName
 named space local = record { namespace = space; local = local }
 
-fits-in : (table : Which) (space : Namespace) (local : List ℕ) → list_any (same_namespace space) (spaces_for table) ≡ true → IsLocal local
+fits-in : (table : DocumentType) (space : Namespace) (local : List ℕ) → list_any (same_namespace space) (spaces_for table) ≡ true → IsLocal local
     → fits (root_for table) (named space local) ≡ true
-fits-in which.Invoice spaces.UblAggregate local h l = fits-by (codes "cac:") local refl refl l
-fits-in which.Invoice spaces.UblBasic local h l = fits-by (codes "cbc:") local refl refl l
-fits-in which.Invoice spaces.UblInvoice local h l = absurd (false≢true h)
-fits-in which.Invoice spaces.UblCreditNote local h l = absurd (false≢true h)
-fits-in which.Invoice spaces.CiiInvoice local h l = absurd (false≢true h)
-fits-in which.Invoice spaces.CiiAggregate local h l = absurd (false≢true h)
-fits-in which.Invoice spaces.CiiUnqualified local h l = absurd (false≢true h)
-fits-in which.Invoice spaces.CiiQualified local h l = absurd (false≢true h)
-fits-in which.CreditNote spaces.UblAggregate local h l = fits-by (codes "cac:") local refl refl l
-fits-in which.CreditNote spaces.UblBasic local h l = fits-by (codes "cbc:") local refl refl l
-fits-in which.CreditNote spaces.UblInvoice local h l = absurd (false≢true h)
-fits-in which.CreditNote spaces.UblCreditNote local h l = absurd (false≢true h)
-fits-in which.CreditNote spaces.CiiInvoice local h l = absurd (false≢true h)
-fits-in which.CreditNote spaces.CiiAggregate local h l = absurd (false≢true h)
-fits-in which.CreditNote spaces.CiiUnqualified local h l = absurd (false≢true h)
-fits-in which.CreditNote spaces.CiiQualified local h l = absurd (false≢true h)
-fits-in which.Cii spaces.CiiInvoice local h l = fits-by (codes "rsm:") local refl refl l
-fits-in which.Cii spaces.CiiAggregate local h l = fits-by (codes "ram:") local refl refl l
-fits-in which.Cii spaces.CiiUnqualified local h l = fits-by (codes "udt:") local refl refl l
-fits-in which.Cii spaces.CiiQualified local h l = fits-by (codes "qdt:") local refl refl l
-fits-in which.Cii spaces.UblInvoice local h l = absurd (false≢true h)
-fits-in which.Cii spaces.UblCreditNote local h l = absurd (false≢true h)
-fits-in which.Cii spaces.UblAggregate local h l = absurd (false≢true h)
-fits-in which.Cii spaces.UblBasic local h l = absurd (false≢true h)
+fits-in document_type.Invoice spaces.UblAggregate local h l = fits-by (codes "cac:") local refl refl l
+fits-in document_type.Invoice spaces.UblBasic local h l = fits-by (codes "cbc:") local refl refl l
+fits-in document_type.Invoice spaces.UblInvoice local h l = absurd (false≢true h)
+fits-in document_type.Invoice spaces.UblCreditNote local h l = absurd (false≢true h)
+fits-in document_type.Invoice spaces.CiiInvoice local h l = absurd (false≢true h)
+fits-in document_type.Invoice spaces.CiiAggregate local h l = absurd (false≢true h)
+fits-in document_type.Invoice spaces.CiiUnqualified local h l = absurd (false≢true h)
+fits-in document_type.Invoice spaces.CiiQualified local h l = absurd (false≢true h)
+fits-in document_type.CreditNote spaces.UblAggregate local h l = fits-by (codes "cac:") local refl refl l
+fits-in document_type.CreditNote spaces.UblBasic local h l = fits-by (codes "cbc:") local refl refl l
+fits-in document_type.CreditNote spaces.UblInvoice local h l = absurd (false≢true h)
+fits-in document_type.CreditNote spaces.UblCreditNote local h l = absurd (false≢true h)
+fits-in document_type.CreditNote spaces.CiiInvoice local h l = absurd (false≢true h)
+fits-in document_type.CreditNote spaces.CiiAggregate local h l = absurd (false≢true h)
+fits-in document_type.CreditNote spaces.CiiUnqualified local h l = absurd (false≢true h)
+fits-in document_type.CreditNote spaces.CiiQualified local h l = absurd (false≢true h)
+fits-in document_type.Cii spaces.CiiInvoice local h l = fits-by (codes "rsm:") local refl refl l
+fits-in document_type.Cii spaces.CiiAggregate local h l = fits-by (codes "ram:") local refl refl l
+fits-in document_type.Cii spaces.CiiUnqualified local h l = fits-by (codes "udt:") local refl refl l
+fits-in document_type.Cii spaces.CiiQualified local h l = fits-by (codes "qdt:") local refl refl l
+fits-in document_type.Cii spaces.UblInvoice local h l = absurd (false≢true h)
+fits-in document_type.Cii spaces.UblCreditNote local h l = absurd (false≢true h)
+fits-in document_type.Cii spaces.UblAggregate local h l = absurd (false≢true h)
+fits-in document_type.Cii spaces.UblBasic local h l = absurd (false≢true h)
 
-name-fits : (table : Which) (name : ElementName) → is_name (spaces_for table) name ≡ true → fits (root_for table) name ≡ true
+name-fits : (table : DocumentType) (name : ElementName) → is_name (spaces_for table) name ≡ true → fits (root_for table) name ≡ true
 name-fits table name h =
     let w = both (list_any (same_namespace name.namespace) (spaces_for table)) (is_local name.local) h in
     fits-in table name.namespace name.local w.0 (local-is name.local w.1)
 
 -- ---- the names that lead to a place, computed
 
-abbrev leads : Which → ExtPlace → List ElementName
+abbrev leads : DocumentType → ExtPlace → List ElementName
 leads table place = map (λ (s : Step). s.name) (context_path (rows_of table) (outer_of place) None)
 
 invoice-root : list_all (fits spaces.UblInvoice) (map (λ (s : Step). s.name) (context_path invoice_rows (outer_of places.Root) None)) ≡ true
@@ -258,13 +258,13 @@ cii-line : list_all (fits spaces.CiiInvoice) (map (λ (s : Step). s.name) (conte
 unfolding encode is_name_start is_name_char cii_listing cii_rows
 cii-line = refl
 
-leads-fit : (table : Which) (place : ExtPlace) → list_all (fits (root_for table)) (leads table place) ≡ true
-leads-fit which.Invoice places.Root = invoice-root
-leads-fit which.Invoice places.Line = invoice-line
-leads-fit which.CreditNote places.Root = credit_note-root
-leads-fit which.CreditNote places.Line = credit_note-line
-leads-fit which.Cii places.Root = cii-root
-leads-fit which.Cii places.Line = cii-line
+leads-fit : (table : DocumentType) (place : ExtPlace) → list_all (fits (root_for table)) (leads table place) ≡ true
+leads-fit document_type.Invoice places.Root = invoice-root
+leads-fit document_type.Invoice places.Line = invoice-line
+leads-fit document_type.CreditNote places.Root = credit_note-root
+leads-fit document_type.CreditNote places.Line = credit_note-line
+leads-fit document_type.Cii places.Root = cii-root
+leads-fit document_type.Cii places.Line = cii-line
 
 -- ---- so the names of a path
 
@@ -274,7 +274,7 @@ by-names p (s ∷ path) h =
     let w = both (p s.name) (list_all p (map (λ (t : Step). t.name) path)) h in
     and-so (p s.name) (list_all (λ (t : Step). p t.name) path) w.0 (by-names p path w.1)
 
-module _ (table : Which) (rows : List Row) (a : AddedTerm) (file : IsOfFile table a) (own : built rows ≡ rows_of table) where
+module _ (table : DocumentType) (rows : List Row) (a : AddedTerm) (file : IsOfFile table a) (own : built rows ≡ rows_of table) where
   abbrev steps : List Step
   steps = path_of rows (greatest rows) [] (names_for (built rows) a)
 

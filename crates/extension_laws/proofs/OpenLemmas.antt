@@ -3,7 +3,7 @@ use Rattle.std.proofs.Common.{ℕ, suc, ◌+◌, ◌*◌, ◌<◌, ◌≤◌, Li
 use Rattle.std.proofs.lemmas.List.Elements.{All-nil, All-cons, All-head, All-tail}
 use Rattle.bind_rows.specs.declared.names.Leaf.{Leaf}
 use Rattle.bind_rows.specs.declared.rows.Row.{Row}
-use Rattle.bind_rows.specs.declared.tables.Which.{Which}
+use Rattle.bind_rows.specs.declared.tables.DocumentType.{DocumentType}
 use Rattle.bind_table.specs.declared.extending.AddedTerm.{AddedTerm}
 use Rattle.bind_table.specs.Extending.{added_row, extended}
 use Rattle.bind_table.specs.Lines.{plan_of}
@@ -21,7 +21,7 @@ use Rattle.extension_laws.proofs.CompleteLemmas.{complete-more}
 use Rattle.extension_laws.proofs.CoverLemmas.{joined-more, paired-more}
 use Rattle.extension_laws.proofs.FaultLemmas.{faultless-more}
 use Rattle.extension_laws.proofs.PlainLemmas.{covered-more}
-use Rattle.extension_laws.proofs.ShowLemmas.{shows-more, rooted-more, root-more, which-more}
+use Rattle.extension_laws.proofs.ShowLemmas.{shows-more, rooted-more, root-more, document_type-more}
 use Rattle.extension_laws.proofs.TextLemmas.{left-none}
 
 long-more : (rows : List Row) (row : Row) → All (λ (r : Row). 0 < length r.path) rows → 0 < length row.path
@@ -34,7 +34,7 @@ long-more (x ∷ rows) row a h =
 deep-enough : 23 ≤ reading_limits.depth
 deep-enough = le-from 23 reading_limits.depth refl
 
-pub open-more : (table : Which) (rows : List Row) (row : Row) (n : ℕ) → IsOpen table rows → HasRoom (suc n) rows → Joins rows row
+pub open-more : (table : DocumentType) (rows : List Row) (row : Row) (n : ℕ) → IsOpen table rows → HasRoom (suc n) rows → Joins rows row
     → IsOpen table (rows ++ row ∷ [])
 open-more table rows row n was room joins =
     let one = (both-true (is_one_root (plan_of rows)) _ was.readable).0 in
@@ -53,23 +53,25 @@ open-more table rows row n was room joins =
       joined = joined;
       paired = paired;
       faultless = faultless-more rows row joins was.long was.faultless;
-      complete = complete-more rows row joins was.long was.paired left left_more (which-more rows row r) was.complete;
+      complete = complete-more rows row joins was.long was.paired left left_more (document_type-more rows row r) was.complete;
       readable = readable-more reading_limits rows row joins was.long was.readable (omega (arith, short, deep)) enough joins.named;
       shows = shows-more invoice_number rows row was.shows;
       root = root-more rows row r ∙ was.root;
-      which = which-more rows row r ∙ was.which;
+      document_type = document_type-more rows row r ∙ was.document_type;
       laid = laid-more rows row joins was.long one was.laid;
       notes = all-more has_plain_attribute rows row (all-each has_plain_attribute rows was.notes)
           (ap (λ (l : Leaf). is_plain_leaf l row.form) (is rows row joins).leaf);
     }
 
-pub room-more : (table : Which) (rows : List Row) (row : Row) (n : ℕ) → IsOpen table rows → HasRoom (suc n) rows → Joins rows row → HasRoom n (rows ++ row ∷ [])
+pub room-more : (table : DocumentType) (rows : List Row) (row : Row) (n : ℕ) → IsOpen table rows → HasRoom (suc n) rows → Joins rows row
+    → HasRoom n (rows ++ row ∷ [])
 room-more table rows row n was room joins =
     let more = names-more reading_limits rows row joins was.long was.readable in
     let short = joins.short in
     omega (arith, more, short, room)
 
-pub open-extended : (table : Which) (terms : List AddedTerm) (rows : List Row) → IsOpen table rows → HasRoom (length terms) rows → JoinEach table rows terms
+pub open-extended : (table : DocumentType) (terms : List AddedTerm) (rows : List Row) → IsOpen table rows → HasRoom (length terms) rows
+    → JoinEach table rows terms
     → IsOpen table (extended table rows terms)
 open-extended table [] rows was room joins = was
 open-extended table (a ∷ terms) rows was room joins =

@@ -10,8 +10,8 @@ use Rattle.term_table.specs.Groups.{parent_of, occurrence_of}
 use Rattle.ubl_binding.specs.Tables.{invoice_listing, invoice_rows, credit_note_listing, credit_note_rows}
 use Rattle.cii_binding.specs.Table.{cii_listing, cii_rows}
 use Rattle.bind_rows.specs.declared.rows.Row.{Row}
-use Rattle.bind_rows.specs.declared.tables.Which.{Which}
-use Rattle.bind_rows.specs.declared.tables.Which.TheVariants as which
+use Rattle.bind_rows.specs.declared.tables.DocumentType.{DocumentType}
+use Rattle.bind_rows.specs.declared.tables.DocumentType.TheVariants as document_type
 use Rattle.bind_table.specs.Lines.{plan_of}
 use Rattle.bind_meaning.specs.Tables.{rows_of}
 use Rattle.bind_carrying.specs.Tables as carrying
@@ -76,17 +76,17 @@ paired-cii : unpaired_terms (plan_of cii_rows) cii_rows ≡ []
 unfolding is_white_space terms extension_rows listing_rows parent_of occurrence_of cii_listing cii_rows
 paired-cii = refl
 
-which-invoice : carrying.which_of invoice_rows ≡ which.Invoice
+document_type-invoice : carrying.document_type_of invoice_rows ≡ document_type.Invoice
 unfolding invoice_listing invoice_rows
-which-invoice = refl
+document_type-invoice = refl
 
-which-credit_note : carrying.which_of credit_note_rows ≡ which.CreditNote
+document_type-credit_note : carrying.document_type_of credit_note_rows ≡ document_type.CreditNote
 unfolding credit_note_listing credit_note_rows
-which-credit_note = refl
+document_type-credit_note = refl
 
-which-cii : carrying.which_of cii_rows ≡ which.Cii
+document_type-cii : carrying.document_type_of cii_rows ≡ document_type.Cii
 unfolding cii_listing cii_rows
-which-cii = refl
+document_type-cii = refl
 
 room-invoice : nat_le (length (names_of (plan_of invoice_rows)) + 46 * 99) reading_limits.names ≡ true
 unfolding invoice_listing invoice_rows
@@ -100,32 +100,32 @@ room-cii : nat_le (length (names_of (plan_of cii_rows)) + 46 * 99) reading_limit
 unfolding cii_listing cii_rows
 room-cii = refl
 
-pub room-each : (table : Which) → HasRoom 99 (rows_of table)
-room-each which.Invoice = le-from (length (names_of (plan_of invoice_rows)) + 46 * 99) reading_limits.names room-invoice
-room-each which.CreditNote = le-from (length (names_of (plan_of credit_note_rows)) + 46 * 99) reading_limits.names room-credit_note
-room-each which.Cii = le-from (length (names_of (plan_of cii_rows)) + 46 * 99) reading_limits.names room-cii
+pub room-each : (table : DocumentType) → HasRoom 99 (rows_of table)
+room-each document_type.Invoice = le-from (length (names_of (plan_of invoice_rows)) + 46 * 99) reading_limits.names room-invoice
+room-each document_type.CreditNote = le-from (length (names_of (plan_of credit_note_rows)) + 46 * 99) reading_limits.names room-credit_note
+room-each document_type.Cii = le-from (length (names_of (plan_of cii_rows)) + 46 * 99) reading_limits.names room-cii
 
-pub long-each : (table : Which) → All (λ (r : Row). 0 < length r.path) (rows_of table)
-long-each which.Invoice = long-by-test invoice_rows long-invoice
-long-each which.CreditNote = long-by-test credit_note_rows long-credit_note
-long-each which.Cii = long-by-test cii_rows long-cii
+pub long-each : (table : DocumentType) → All (λ (r : Row). 0 < length r.path) (rows_of table)
+long-each document_type.Invoice = long-by-test invoice_rows long-invoice
+long-each document_type.CreditNote = long-by-test credit_note_rows long-credit_note
+long-each document_type.Cii = long-by-test cii_rows long-cii
 
-pub covered-each : (table : Which) → are_covered (rows_of table) ≡ true
-covered-each which.Invoice = covered-invoice
-covered-each which.CreditNote = covered-credit_note
-covered-each which.Cii = covered-cii
+pub covered-each : (table : DocumentType) → are_covered (rows_of table) ≡ true
+covered-each document_type.Invoice = covered-invoice
+covered-each document_type.CreditNote = covered-credit_note
+covered-each document_type.Cii = covered-cii
 
-pub joined-each : (table : Which) → unjoined_terms (plan_of (rows_of table)) (rows_of table) ≡ []
-joined-each which.Invoice = joined-invoice
-joined-each which.CreditNote = joined-credit_note
-joined-each which.Cii = joined-cii
+pub joined-each : (table : DocumentType) → unjoined_terms (plan_of (rows_of table)) (rows_of table) ≡ []
+joined-each document_type.Invoice = joined-invoice
+joined-each document_type.CreditNote = joined-credit_note
+joined-each document_type.Cii = joined-cii
 
-pub paired-each : (table : Which) → unpaired_terms (plan_of (rows_of table)) (rows_of table) ≡ []
-paired-each which.Invoice = paired-invoice
-paired-each which.CreditNote = paired-credit_note
-paired-each which.Cii = paired-cii
+pub paired-each : (table : DocumentType) → unpaired_terms (plan_of (rows_of table)) (rows_of table) ≡ []
+paired-each document_type.Invoice = paired-invoice
+paired-each document_type.CreditNote = paired-credit_note
+paired-each document_type.Cii = paired-cii
 
-pub which-each : (table : Which) → carrying.which_of (rows_of table) ≡ table
-which-each which.Invoice = which-invoice
-which-each which.CreditNote = which-credit_note
-which-each which.Cii = which-cii
+pub document_type-each : (table : DocumentType) → carrying.document_type_of (rows_of table) ≡ table
+document_type-each document_type.Invoice = document_type-invoice
+document_type-each document_type.CreditNote = document_type-credit_note
+document_type-each document_type.Cii = document_type-cii

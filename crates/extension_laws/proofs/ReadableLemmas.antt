@@ -20,7 +20,8 @@ use Rattle.xml_state.specs.Admission.{has_twice}
 use Rattle.xml_write.specs.Canonical.{Declaration, element_name}
 use Rattle.xml_laws.specs.Writable.{is_element_name, is_short}
 use Rattle.bind_meaning.specs.Currencies.{currency_id}
-use Rattle.written_laws.specs.Readable.{levels, local_of, locals, unspaced, names_of, constant_of, filler_of, has_chars, all_lines, is_fine_local, is_fine_line}
+use Rattle.written_laws.specs.Readable.{levels, local_of, locals, unspaced, names_of, constant_of, placeholder_of, has_chars, all_lines, is_fine_local}
+use Rattle.written_laws.specs.Readable.{is_fine_line}
 use Rattle.written_laws.specs.Readable.{are_fine, is_one_root, is_readable_plan, is_readable}
 use Rattle.bind_write.specs.Documents.{namespace_of, declared_for}
 use Rattle.inv_base.specs.Characters.{is_char}
@@ -233,7 +234,7 @@ module _ (limits : Limits) (rows : List Row) (row : Row) (joins : Joins rows row
   none = ap (λ (l : Leaf). elim l [ leaves.Element ↦ [] | (leaves.Attribute local) ↦ local ∷ [] ]) own.leaf
 
   chars : has_chars cell ≡ true
-  chars = λ i. list_all is_char (constant_of (joins.content i)) && list_all is_char (filler_of (own.written i))
+  chars = λ i. list_all is_char (constant_of (joins.content i)) && list_all is_char (placeholder_of (own.written i))
 
   -- what the line of the root says of each line
   root-line : is_fine_line limits declarations rooted.step rooted.cells ≡ true

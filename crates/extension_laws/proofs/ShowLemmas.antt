@@ -13,9 +13,9 @@ use Rattle.bind_table.specs.WellFormed.{is_root, has_root}
 use Rattle.bind_table.proofs.GrowingLemmas.{into-same}
 use Rattle.bind_table.proofs.PathLemmas.{step-itself}
 use Rattle.bind_table.proofs.SameLemmas.{step-sound}
-use Rattle.bind_carrying.specs.Tables.{table_of, which_of}
+use Rattle.bind_carrying.specs.Tables.{table_of, document_type_of}
 use Rattle.bind_write.specs.Documents.{namespace_of}
-use Rattle.bind_run.specs.Roots.{which_named}
+use Rattle.bind_run.specs.Roots.{document_type_named}
 use Rattle.binding_laws.specs.Apart.{is_called}
 use Rattle.written_laws.specs.Readable.{always_writes, shows, is_one_root}
 use Rattle.written_laws.specs.Roots.{root_name, root_table}
@@ -137,10 +137,10 @@ module _ (rows : List Row) (row : Row) (r : Rooted rows row) where
   one-root-more = ap is_one_root r.is ∙ ap is_none r.once
 
   pub root-more : root_table (rows ++ row ∷ []) ≡ root_table rows
-  root-more = ap (λ q. option_and_then which_named (root_name q)) r.is ∙ sym (ap (λ q. option_and_then which_named (root_name q)) r.was)
+  root-more = ap (λ q. option_and_then document_type_named (root_name q)) r.is ∙ sym (ap (λ q. option_and_then document_type_named (root_name q)) r.was)
 
   pub namespace-more : namespace_of (plan_of (rows ++ row ∷ [])) ≡ namespace_of (plan_of rows)
   namespace-more = ap namespace_of r.is ∙ sym (ap namespace_of r.was)
 
-  pub which-more : which_of (rows ++ row ∷ []) ≡ which_of rows
-  which-more = ap table_of namespace-more
+  pub document_type-more : document_type_of (rows ++ row ∷ []) ≡ document_type_of rows
+  document_type-more = ap table_of namespace-more

@@ -10,7 +10,7 @@ use Rattle.inv_terms.specs.declared.entries.Entry.{Entry}
 use Rattle.inv_terms.specs.Listing.{IsInvoice}
 use Rattle.inv_terms.specs.Whole.{IsValid}
 use Rattle.bind_rows.specs.declared.rows.Row.{Row}
-use Rattle.bind_rows.specs.declared.tables.Which.{Which}
+use Rattle.bind_rows.specs.declared.tables.DocumentType.{DocumentType}
 use Rattle.bind_table.specs.Lines.{plan_of}
 use Rattle.bind_table.specs.WellFormed.{first_fault}
 use Rattle.bind_meaning.specs.declared.tables.Syntax.{Syntax}
@@ -21,7 +21,7 @@ use Rattle.bind_write.specs.Documents.{document_text}
 use Rattle.bind_carrying.specs.Tables.{target}
 use Rattle.bind_carrying.specs.Carrying.{carrying, entries_carried}
 use Rattle.bind_run.specs.Reading.{by_root, invoice_by}
-use Rattle.bind_run.specs.Roots.{which_of}
+use Rattle.bind_run.specs.Roots.{document_type_of}
 use Rattle.binding_laws.specs.Apart.{holds_none}
 use Rattle.binding_laws.specs.Covered.{is_covered, is_shadowed, is_other, is_settled, rows_there, terms_in, unjoined_terms, unpaired_terms, left_out}
 use Rattle.binding_laws.specs.Covered.{holds_plainly}
@@ -85,7 +85,7 @@ module _
     → entries_carried rows es ≡ Ok tt → holds_none (left_out rows) es ≡ true → holds_plainly rows es ≡ true)
     (meets : (rows : List Row) (es : List Entry) → carrying rows es ≡ Ok tt → entries_carried rows es ≡ Ok tt)
   where
-    pub open-read : (table : Which) (rows : List Row) (es : List Entry) (lists : Lists) → IsOpen table rows → first_fault rows ≡ Ok tt → IsInvoice es
+    pub open-read : (table : DocumentType) (rows : List Row) (es : List Entry) (lists : Lists) → IsOpen table rows → first_fault rows ≡ Ok tt → IsInvoice es
         → IsValid es lists → carrying rows es ≡ Ok tt
         → terms_of (document_nodes (document_of rows es)) rows lists ≡ Ok (exactly es)
     open-read table rows es lists open_rows fine invoice valid by =
@@ -99,10 +99,10 @@ module _
         (there : (rows : List Row) (es : List Entry) (lists : Lists) → shows invoice_number (plan_of rows) ≡ true → IsValid es lists → holds_any rows es ≡ true)
         (small : (rows : List Row) (es : List Entry) → carrying rows es ≡ Ok tt → IsSmall reading_limits rows es)
         (root : (limits : Limits) (rows : List Row) (es : List Entry) → is_readable limits rows ≡ true → holds_any rows es ≡ true →
-        which_of (document_nodes (document_of rows es)) ≡ root_table rows)
-        (tables : Which → List Row) (are : AreOpen tables)
+        document_type_of (document_nodes (document_of rows es)) ≡ root_table rows)
+        (tables : DocumentType → List Row) (are : AreOpen tables)
       where
-        pub round : (table : Which) (es : List Entry) (lists : Lists) → IsInvoice es → IsValid es lists → carrying (tables table) es ≡ Ok tt
+        pub round : (table : DocumentType) (es : List Entry) (lists : Lists) → IsInvoice es → IsValid es lists → carrying (tables table) es ≡ Ok tt
             → AreReadBy tables (encode_utf8_all (document_text (tables table) es)) lists (exactly es)
         round table es lists invoice valid by =
             let open_rows = are.open_each table in
@@ -120,8 +120,8 @@ module _
 
 -- ---- conversions
 
-module _ (tables : Which → List Row)
-    (round_trip : (table : Which) (es : List Entry) (lists : Lists) → IsInvoice es → IsValid es lists → carrying (tables table) es ≡ Ok tt
+module _ (tables : DocumentType → List Row)
+    (round_trip : (table : DocumentType) (es : List Entry) (lists : Lists) → IsInvoice es → IsValid es lists → carrying (tables table) es ≡ Ok tt
     → AreReadBy tables (encode_utf8_all (document_text (tables table) es)) lists (exactly es))
   where
     read-converted : (syntax : Syntax) (lists : Lists) (bytes : List ℕ) (read : Read) → AreReadBy tables bytes lists read

@@ -7,7 +7,7 @@ use Rattle.bind_rows.specs.declared.rows.Row.{Row}
 use Rattle.bind_rows.specs.declared.rows.Step.{Step}
 use Rattle.bind_rows.specs.Added.{is_added}
 use Rattle.bind_rows.specs.declared.names.Namespace.{Namespace}
-use Rattle.bind_rows.specs.declared.tables.Which.{Which}
+use Rattle.bind_rows.specs.declared.tables.DocumentType.{DocumentType}
 use Rattle.bind_table.specs.declared.extending.AddedTerm.{AddedTerm}
 use Rattle.bind_table.specs.Crossings.{part_by_name}
 use Rattle.bind_table.specs.Extending.{added_row}
@@ -55,6 +55,6 @@ pub record Joins (rows : List Row) (row : Row) : Type 0 where
   pub fresh : are_new top (new_steps row.path (plan_of rows)) ≡ true
 
 -- Each of the rows of the terms joins the rows before it.
-abbrev pub JoinEach : Which → List Row → List AddedTerm → Type 0
+abbrev pub JoinEach : DocumentType → List Row → List AddedTerm → Type 0
 JoinEach table rows [] = Unit {0}
 JoinEach table rows (a ∷ terms) = Joins rows (added_row table rows a) × JoinEach table (rows ++ added_row table rows a ∷ []) terms

@@ -4,8 +4,8 @@
 use Rattle.std.specs.Prelude.{◌≡◌, ℕ, ◌+◌, ◌*◌, ◌<◌, ◌≤◌, Bool, true, not, ◌||◌, List, [], All, length, Some}
 use Rattle.std.specs.List.{list_all}
 use Rattle.bind_rows.specs.declared.rows.Row.{Row}
-use Rattle.bind_rows.specs.declared.tables.Which.{Which}
-use Rattle.bind_table.specs.Laid.{is_laid}
+use Rattle.bind_rows.specs.declared.tables.DocumentType.{DocumentType}
+use Rattle.bind_table.specs.Laid.{is_writable}
 use Rattle.bind_table.specs.Lines.{Plan, plan_of}
 use Rattle.bind_meaning.specs.Picks.{has_any_term}
 use Rattle.bind_write.specs.Sources.{has_plain_attribute}
@@ -27,7 +27,7 @@ are_covered rows = are_covered_in (plan_of rows) rows
 abbrev pub HasRoom : ℕ → List Row → Type 0
 HasRoom more rows = length (names_of (plan_of rows)) + 46 * more ≤ reading_limits.names
 
-pub record IsOpen (table : Which) (rows : List Row) : Type 0 where
+pub record IsOpen (table : DocumentType) (rows : List Row) : Type 0 where
   -- the laws of lines, and all that stand on them
   pub long : All (λ (row : Row). 0 < length row.path) rows
   -- that what is written is read back (settled, and no term left out, follow from these three)
@@ -43,7 +43,7 @@ pub record IsOpen (table : Which) (rows : List Row) : Type 0 where
   pub shows : shows invoice_number (plan_of rows) ≡ true
   -- that the table of a document, and of an invoice, is told
   pub root : root_table rows ≡ Some table
-  pub which : carrying.which_of rows ≡ table
+  pub document_type : carrying.document_type_of rows ≡ table
   -- that the writer takes the table
-  pub laid : is_laid rows ≡ true
+  pub laid : is_writable rows ≡ true
   pub notes : list_all has_plain_attribute rows ≡ true

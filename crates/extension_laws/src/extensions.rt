@@ -4,12 +4,12 @@ ghost use Rattle.code_lists.specs.CodeFiles.{Lists};
 ghost use Rattle.inv_terms.specs.declared.entries.Entry.{Entry};
 ghost use Rattle.inv_terms.specs.Listing.{IsInvoice};
 ghost use Rattle.inv_terms.specs.Whole.{IsValid};
-ghost use Rattle.bind_rows.specs.declared.tables.Which.{Which};
+ghost use Rattle.bind_rows.specs.declared.tables.DocumentType.{DocumentType};
 ghost use Rattle.extension_files.specs.declared.terms.ExtTerm.{ExtTerm};
 ghost use Rattle.extension_files.specs.ExtensionFiles.{file_terms};
 ghost use Rattle.extension_files.specs.Extensions.{is_extension};
 ghost use Rattle.bind_table.specs.declared.judging.TableFault.{TableFault};
-ghost use Rattle.bind_table.specs.Laid.{is_laid};
+ghost use Rattle.bind_table.specs.Laid.{is_writable};
 ghost use Rattle.bind_table.specs.Limits.{HasSteps, HasSmallNumbers, HasRooms};
 ghost use Rattle.bind_table.specs.WellFormed.{first_fault};
 ghost use Rattle.bind_meaning.specs.declared.tables.Syntax.{Syntax};
@@ -28,15 +28,15 @@ use ubl_binding::{credit_note_is_well_formed, invoice_is_well_formed};
 
 /// The terms of each extension have room behind the rows of each of the three tables.
 pub fn extensions_have_room()
-    ensures rooms { (table : Which) (terms : List ExtTerm) → is_extension terms ≡ true → HasRooms table (rows_of table) (terms_for table terms) }
-    ensures steps { (table : Which) → All HasSteps (rows_of table) }
-    ensures numbers { (table : Which) → All HasSmallNumbers (rows_of table) }
+    ensures rooms { (table : DocumentType) (terms : List ExtTerm) → is_extension terms ≡ true → HasRooms table (rows_of table) (terms_for table terms) }
+    ensures steps { (table : DocumentType) → All HasSteps (rows_of table) }
+    ensures numbers { (table : DocumentType) → All HasSmallNumbers (rows_of table) }
 {}
 
 /// Where one of the three tables with the terms of an extension is well formed, the row of each of them joins the rows before
 /// it.
 pub fn good_extensions_join()
-    ensures { (table : Which) (terms : List ExtTerm) → is_extension terms ≡ true → first_fault (rows_for terms table) ≡ Ok tt
+    ensures { (table : DocumentType) (terms : List ExtTerm) → is_extension terms ≡ true → first_fault (rows_for terms table) ≡ Ok tt
         → JoinEach table (rows_of table) (terms_for table terms) }
 {}
 
@@ -50,8 +50,8 @@ pub fn good_extensions_are_open()
 
 /// So an invoice may be written by each of them.
 pub fn extended_tables_are_laid()
-    ensures laid { (terms : List ExtTerm) (table : Which) → AreGood terms → is_laid (rows_for terms table) ≡ true }
-    ensures notes { (terms : List ExtTerm) (table : Which) → AreGood terms → list_all has_plain_attribute (rows_for terms table) ≡ true }
+    ensures laid { (terms : List ExtTerm) (table : DocumentType) → AreGood terms → is_writable (rows_for terms table) ≡ true }
+    ensures notes { (terms : List ExtTerm) (table : DocumentType) → AreGood terms → list_all has_plain_attribute (rows_for terms table) ≡ true }
 {
     good_extensions_are_open();
 }
@@ -60,7 +60,7 @@ pub fn extended_tables_are_laid()
 /// invoice is written as in a syntax that carries it is read by these tables as exactly that invoice, with nothing passed over.
 pub fn good_extensions_keep_the_round_trip()
     ensures { (bytes : List ℕ) (terms : List ExtTerm) (syntax : Syntax) (es : List Entry) (lists : Lists) → file_terms bytes ≡ Ok terms
-        → ((table : Which) → first_fault (rows_for terms table) ≡ Ok tt) → IsInvoice es → IsValid es lists → IsCarriedIn (rows_for terms) syntax es
+        → ((table : DocumentType) → first_fault (rows_for terms table) ≡ Ok tt) → IsInvoice es → IsValid es lists → IsCarriedIn (rows_for terms) syntax es
         → AreReadBy (rows_for terms) (text_by (rows_for terms) syntax es) lists (exactly es) }
 {
     file_terms_are_extensions();
@@ -70,7 +70,7 @@ pub fn good_extensions_keep_the_round_trip()
 
 /// Where one of them isn't well formed, its fault is at a row that stands behind its own and has one of the extension's terms.
 pub fn fault_of_an_extension()
-    ensures { (table : Which) (terms : List ExtTerm) (fault : TableFault) → is_extension terms ≡ true → first_fault (rows_for terms table) ≡ Err fault
+    ensures { (table : DocumentType) (terms : List ExtTerm) (fault : TableFault) → is_extension terms ≡ true → first_fault (rows_for terms table) ≡ Err fault
         → IsOfTerm (length (rows_of table)) (rows_for terms table) fault }
 {
     invoice_is_well_formed();

@@ -10,7 +10,7 @@ ghost use Rattle.inv_terms.specs.declared.entries.Entry.{Entry};
 ghost use Rattle.inv_terms.specs.Listing.{IsInvoice};
 ghost use Rattle.inv_terms.specs.Whole.{IsValid};
 ghost use Rattle.bind_rows.specs.declared.rows.Row.{Row};
-ghost use Rattle.bind_rows.specs.declared.tables.Which.{Which};
+ghost use Rattle.bind_rows.specs.declared.tables.DocumentType.{DocumentType};
 ghost use Rattle.bind_table.specs.declared.extending.AddedTerm.{AddedTerm};
 ghost use Rattle.bind_table.specs.Extending.{extended};
 ghost use Rattle.bind_table.specs.Lines.{plan_of};
@@ -23,7 +23,7 @@ ghost use Rattle.bind_meaning.specs.Terms.{terms_of};
 ghost use Rattle.bind_meaning.specs.Trees.{document_of, is_at_element};
 ghost use Rattle.bind_write.specs.Documents.{document_text};
 ghost use Rattle.bind_carrying.specs.Carrying.{carrying};
-ghost use Rattle.bind_carrying.specs.Tables.{which_of};
+ghost use Rattle.bind_carrying.specs.Tables.{document_type_of};
 ghost use Rattle.binding_laws.specs.Apart.{Known, is_apart};
 ghost use Rattle.binding_laws.specs.Covered.{unjoined_terms, unpaired_terms, left_out};
 ghost use Rattle.binding_laws.specs.Faultless.{is_faultless};
@@ -61,7 +61,7 @@ pub fn joined_rows_stand_apart()
         → rows_at is_at_element (plan_of (rows ++ row ∷ [])) row.path ≡ row ∷ [] }
 {}
 
-/// Where a row joins a table whose rows are covered, whose fillers are told from values and whose VAT totals are told
+/// Where a row joins a table whose rows are covered, whose placeholders are told from values and whose VAT totals are told
 /// apart, all of this is so of the table with it.
 pub fn joined_tables_stay_covered()
     ensures covered { (rows : List Row) (row : Row) → Joins rows row → All (λ r. 0 < length r.path) rows
@@ -81,25 +81,25 @@ pub fn joined_tables_stay_faultless()
 /// Where a row joins a complete table that leaves no term out, the table with it is complete, if it leaves none out either.
 pub fn joined_tables_stay_complete()
     ensures { (rows : List Row) (row : Row) → Joins rows row → All (λ r. 0 < length r.path) rows → unpaired_terms (plan_of rows) rows ≡ []
-        → left_out rows ≡ [] → left_out (rows ++ row ∷ []) ≡ [] → which_of (rows ++ row ∷ []) ≡ which_of rows
+        → left_out rows ≡ [] → left_out (rows ++ row ∷ []) ≡ [] → document_type_of (rows ++ row ∷ []) ≡ document_type_of rows
         → is_complete rows ≡ true → is_complete (rows ++ row ∷ []) ≡ true }
 {}
 
 /// So an open table stays open where a row joins it, and where the rows of terms join it one by one.
 pub fn joined_tables_stay_open()
-    ensures open_table { (table : Which) (rows : List Row) (row : Row) (n : ℕ) → IsOpen table rows → HasRoom (suc n) rows → Joins rows row
+    ensures open_table { (table : DocumentType) (rows : List Row) (row : Row) (n : ℕ) → IsOpen table rows → HasRoom (suc n) rows → Joins rows row
         → IsOpen table (rows ++ row ∷ []) }
-    ensures room { (table : Which) (rows : List Row) (row : Row) (n : ℕ) → IsOpen table rows → HasRoom (suc n) rows → Joins rows row
+    ensures room { (table : DocumentType) (rows : List Row) (row : Row) (n : ℕ) → IsOpen table rows → HasRoom (suc n) rows → Joins rows row
         → HasRoom n (rows ++ row ∷ []) }
-    ensures extended_table { (table : Which) (terms : List AddedTerm) (rows : List Row) → IsOpen table rows → HasRoom (length terms) rows →
+    ensures extended_table { (table : DocumentType) (terms : List AddedTerm) (rows : List Row) → IsOpen table rows → HasRoom (length terms) rows →
         JoinEach table rows terms
         → IsOpen table (extended table rows terms) }
 {}
 
 /// The three tables are open, and there is room for the names of 99 rows more.
 pub fn tables_are_open()
-    ensures open_table { (table : Which) → IsOpen table (rows_of table) }
-    ensures room { (table : Which) → HasRoom 99 (rows_of table) }
+    ensures open_table { (table : DocumentType) → IsOpen table (rows_of table) }
+    ensures room { (table : DocumentType) → HasRoom 99 (rows_of table) }
 {
     tables_leave_terms_out();
     tables_are_complete();
@@ -111,7 +111,7 @@ pub fn tables_are_open()
 /// So each of the three tables stays open where it is extended by the terms of a user, 99 at most, whose rows join it one by
 /// one.
 pub fn extended_tables_are_open()
-    ensures { (table : Which) (terms : List AddedTerm) → length terms ≤ 99 → JoinEach table (rows_of table) terms
+    ensures { (table : DocumentType) (terms : List AddedTerm) → length terms ≤ 99 → JoinEach table (rows_of table) terms
         → IsOpen table (extended table (rows_of table) terms) }
 {
     tables_are_open();
@@ -131,7 +131,7 @@ pub fn good_rows_join()
 
 /// By an open table that is well formed the document of a valid invoice which it carries is read as exactly that invoice.
 pub fn open_tables_read_exactly()
-    ensures { (table : Which) (rows : List Row) (es : List Entry) (lists : Lists) → IsOpen table rows → first_fault rows ≡ Ok tt
+    ensures { (table : DocumentType) (rows : List Row) (es : List Entry) (lists : Lists) → IsOpen table rows → first_fault rows ≡ Ok tt
         → IsInvoice es → IsValid es lists → carrying rows es ≡ Ok tt
         → terms_of (document_nodes (document_of rows es)) rows lists ≡ Ok (exactly es) }
 {
@@ -143,10 +143,11 @@ pub fn open_tables_read_exactly()
 /// The round trip, by three open tables that are well formed: what a valid invoice is written as by one of them, or in a
 /// syntax, that carries it is read as exactly that invoice, with nothing passed over.
 pub fn round_trip()
-    ensures table { (tables : Which → List Row) (table : Which) (es : List Entry) (lists : Lists) → AreOpen tables → IsInvoice es → IsValid es lists
+    ensures table { (tables : DocumentType → List Row) (table : DocumentType) (es : List Entry) (lists : Lists) → AreOpen tables → IsInvoice es
+        → IsValid es lists
         → carrying (tables table) es ≡ Ok tt
         → AreReadBy tables (encode_utf8_all (document_text (tables table) es)) lists (exactly es) }
-    ensures syntax { (tables : Which → List Row) (syntax : Syntax) (es : List Entry) (lists : Lists) → AreOpen tables → IsInvoice es → IsValid es lists
+    ensures syntax { (tables : DocumentType → List Row) (syntax : Syntax) (es : List Entry) (lists : Lists) → AreOpen tables → IsInvoice es → IsValid es lists
         → IsCarriedIn tables syntax es → AreReadBy tables (text_by tables syntax es) lists (exactly es) }
 {
     invoices_of_covered_rows_are_read_back();
@@ -161,7 +162,7 @@ pub fn round_trip()
 /// What a valid invoice is written as, by three such tables, in a syntax that carries it, is XML of exactly the tree of its
 /// document.
 pub fn texts_are_documents()
-    ensures { (tables : Which → List Row) (syntax : Syntax) (es : List Entry) (lists : Lists) → AreOpen tables → IsInvoice es → IsValid es lists
+    ensures { (tables : DocumentType → List Row) (syntax : Syntax) (es : List Entry) (lists : Lists) → AreOpen tables → IsInvoice es → IsValid es lists
         → IsCarriedIn tables syntax es → IsXml reading_limits (text_by tables syntax es) (tree_by tables syntax es) }
 {
     small_texts_are_documents();
@@ -172,10 +173,12 @@ pub fn texts_are_documents()
 /// The second conversion, by three such tables: where both syntaxes carry a valid invoice, its text in the one is converted
 /// to its text in the other, and that, converted back, is the first text again, byte for byte.
 pub fn second_conversion()
-    ensures there { (tables : Which → List Row) (first second : Syntax) (es : List Entry) (lists : Lists) → AreOpen tables → IsInvoice es → IsValid es lists
+    ensures there { (tables : DocumentType → List Row) (first second : Syntax) (es : List Entry) (lists : Lists) → AreOpen tables → IsInvoice es
+        → IsValid es lists
         → IsCarriedIn tables first es → IsCarriedIn tables second es
         → conversion_by tables second lists (text_by tables first es) ≡ Some (text_by tables second es) }
-    ensures back { (tables : Which → List Row) (first second : Syntax) (es : List Entry) (lists : Lists) → AreOpen tables → IsInvoice es → IsValid es lists
+    ensures back { (tables : DocumentType → List Row) (first second : Syntax) (es : List Entry) (lists : Lists) → AreOpen tables → IsInvoice es
+        → IsValid es lists
         → IsCarriedIn tables first es → IsCarriedIn tables second es
         → option_and_then (conversion_by tables first lists) (conversion_by tables second lists (text_by tables first es)) ≡ Some (text_by tables first es) }
 {

@@ -1,2 +1,2 @@
 pub mod HoldingLemmas
-pub mod Courses
+pub mod Protocols

@@ -1,9 +1,9 @@
 -- What became of an output since bytes began to be held back in front of it.
 use Rattle.std.specs.Prelude.{◌≡◌, ℕ, ◌≤◌, List, take, length, Some, Result, MatchResult}
 use Rattle.std.proofs.Common.{◌⊎◌}
-use Rattle.job_course.specs.declared.status.Status.{Status}
-use Rattle.job_course.specs.declared.status.Status.TheVariants as statuses
-use Rattle.job_course.specs.Outside.{IsAccepted}
+use Rattle.job_protocol.specs.declared.status.Status.{Status}
+use Rattle.job_protocol.specs.declared.status.Status.TheVariants as statuses
+use Rattle.job_protocol.specs.Outside.{IsAccepted}
 use Rattle.inv_base.specs.Counts.{Rose}
 use Rattle.inv_base.specs.Outside.{SinkView, appended}
 

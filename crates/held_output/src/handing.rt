@@ -1,12 +1,12 @@
 //! A job's output is handed on behind the job.
 ghost use Rattle.std.specs.Prelude.{◌≡◌, MatchBool, MatchResult};
-ghost use Rattle.job_course.specs.Outside.{IsAccepted};
-ghost use Rattle.job_course.specs.declared.status.Status.TheVariants as statuses;
+ghost use Rattle.job_protocol.specs.Outside.{IsAccepted};
+ghost use Rattle.job_protocol.specs.declared.status.Status.TheVariants as statuses;
 ghost use Rattle.held_output.specs.Origins.{HandedOver};
 
 use crate::held::{HeldOutput, Lent, Origin};
 use inv_base::{Failed, Sink};
-use job_course::Status;
+use job_protocol::Status;
 
 /// Hands on what a job that ended so has written, where that is its whole answer, and gives the output back with the status:
 /// a failure to hand on is a write fault, whatever the status was. On other statuses what is held back is lost.
@@ -21,7 +21,7 @@ pub fn hand_over<'a, K: Sink, B: Origin>(
         let (lent, handed) = output.finish();
         (lent, status_behind(status, handed))
     } else {
-        (output.give_up(), status)
+        (output.into_sink(), status)
     }
 }
 

@@ -113,7 +113,7 @@ impl<'a, K: Sink, B: Origin> HeldOutput<'a, K, B> {
     }
 
     /// Gives the sink back. What is still held back is lost.
-    pub fn give_up(self) -> Lent<'a, K>
+    pub fn into_sink(self) -> Lent<'a, K>
         ensures name { result.sink.ghost_name ≡ B.name }
         ensures front { TakesFront B.start (⟦<HeldOutput<'a, K, B> as Sink>⟧.view self.entry) (K.view result.sink.now) }
     {

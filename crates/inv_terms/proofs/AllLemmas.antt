@@ -12,20 +12,20 @@ use Rattle.term_table.specs.declared.contexts.Seat.{Seat}
 use Rattle.term_table.specs.SemanticModel.{terms}
 use Rattle.term_table.specs.Places.{slot_place, place, precedes, first_row}
 use Rattle.term_table.proofs.RunLemmas.{same_ahead}
-use Rattle.inv_terms.specs.declared.lacks.Name.{Name}
-use Rattle.inv_terms.specs.declared.lacks.TermFault.TheVariants as faults
-use Rattle.inv_terms.specs.declared.lacks.Lack.{Lack}
+use Rattle.inv_terms.specs.declared.violations.Name.{Name}
+use Rattle.inv_terms.specs.declared.violations.TermFault.TheVariants as faults
+use Rattle.inv_terms.specs.declared.violations.ModelViolation.{ModelViolation}
 use Rattle.inv_terms.specs.Lacking.{missing_at, missing_from, first_missing, all_missing_from, all_missing}
 
 -- ---- the first
 
-abbrev lack_at : Context → ℕ → Name → Lack
-lack_at c k name = record { place = place k c; fault = faults.Missing name }
+abbrev violation_at : Context → ℕ → Name → ModelViolation
+violation_at c k name = record { place = place k c; fault = faults.Missing name }
 
 first-by : (seats : List Seat) (c : Context) (k : ℕ) (rows : List TermRow) (o : Option Name)
     → missing_from seats c (k + 1) rows ≡ slice_get (all_missing_from seats c (k + 1) rows) 0
-    → (elim o [ Some name ↦ Some (lack_at c k name) | None ↦ missing_from seats c (k + 1) rows ])
-    ≡ slice_get (elim o [ Some name ↦ lack_at c k name ∷ all_missing_from seats c (k + 1) rows | None ↦ all_missing_from seats c (k + 1) rows ]) 0
+    → (elim o [ Some name ↦ Some (violation_at c k name) | None ↦ missing_from seats c (k + 1) rows ])
+    ≡ slice_get (elim o [ Some name ↦ violation_at c k name ∷ all_missing_from seats c (k + 1) rows | None ↦ all_missing_from seats c (k + 1) rows ]) 0
 first-by seats c k rows (Some name) h = refl
 first-by seats c k rows None h = h
 
@@ -53,25 +53,25 @@ before (Some s) (Some t) j k l =
     ∙ (same_ahead (first_row t.group) (first_row t.group) (t.index ∷ j ∷ []) (t.index ∷ k ∷ []) refl
     ∙ (same_ahead t.index t.index (j ∷ []) (k ∷ []) refl ∙ less_first j k [] [] l)))
 
-abbrev IsBefore : Lack → Lack → Type 0
+abbrev IsBefore : ModelViolation → ModelViolation → Type 0
 IsBefore a b = precedes a.place b.place ≡ true
 
-behind-by : (seats : List Seat) (c : Context) (k : ℕ) (rows : List TermRow) (one : Lack) (o : Option Name) → precedes one.place (place k c) ≡ true
+behind-by : (seats : List Seat) (c : Context) (k : ℕ) (rows : List TermRow) (one : ModelViolation) (o : Option Name) → precedes one.place (place k c) ≡ true
     → All (IsBefore one) (all_missing_from seats c (k + 1) rows)
-    → All (IsBefore one) (elim o [ Some name ↦ lack_at c k name ∷ all_missing_from seats c (k + 1) rows | None ↦ all_missing_from seats c (k + 1) rows ])
-behind-by seats c k rows one (Some name) e h = All-cons (IsBefore one) (lack_at c k name) (all_missing_from seats c (k + 1) rows) e h
+    → All (IsBefore one) (elim o [ Some name ↦ violation_at c k name ∷ all_missing_from seats c (k + 1) rows | None ↦ all_missing_from seats c (k + 1) rows ])
+behind-by seats c k rows one (Some name) e h = All-cons (IsBefore one) (violation_at c k name) (all_missing_from seats c (k + 1) rows) e h
 behind-by seats c k rows one None e h = h
 
 behind-from : (seats : List Seat) (c : Context) (j k : ℕ) (name : Name) (rows : List TermRow) → j < k →
-    All (IsBefore (lack_at c j name)) (all_missing_from seats c k rows)
-behind-from seats c j k name [] l = All-nil (IsBefore (lack_at c j name))
+    All (IsBefore (violation_at c j name)) (all_missing_from seats c k rows)
+behind-from seats c j k name [] l = All-nil (IsBefore (violation_at c j name))
 behind-from seats c j k name (row ∷ rows) l =
-    behind-by seats c k rows (lack_at c j name) (missing_at seats c k row) (before c.outer c.inner j k l)
+    behind-by seats c k rows (violation_at c j name) (missing_at seats c k row) (before c.outer c.inner j k l)
     (behind-from seats c j (k + 1) name rows (omega (arith, l)))
 
 pairs-by : (seats : List Seat) (c : Context) (k : ℕ) (rows : List TermRow) (o : Option Name) → AllPairs IsBefore (all_missing_from seats c (k + 1) rows)
-    → AllPairs IsBefore (elim o [ Some name ↦ lack_at c k name ∷ all_missing_from seats c (k + 1) rows | None ↦ all_missing_from seats c (k + 1) rows ])
-pairs-by seats c k rows (Some name) h = AllPairs-cons IsBefore (lack_at c k name) (all_missing_from seats c (k + 1) rows)
+    → AllPairs IsBefore (elim o [ Some name ↦ violation_at c k name ∷ all_missing_from seats c (k + 1) rows | None ↦ all_missing_from seats c (k + 1) rows ])
+pairs-by seats c k rows (Some name) h = AllPairs-cons IsBefore (violation_at c k name) (all_missing_from seats c (k + 1) rows)
     (behind-from seats c k (k + 1) name rows (omega arith)) h
 pairs-by seats c k rows None h = h
 

@@ -14,28 +14,28 @@ use Rattle.term_table.specs.SemanticModel.{terms}
 use Rattle.term_table.specs.Places.{slot_place, place, precedes, first_row}
 use Rattle.term_table.proofs.RunLemmas.{not_less, same_ahead, never_before_itself, not_both_ways}
 use Rattle.inv_terms.specs.declared.entries.Entry.{Entry}
-use Rattle.inv_terms.specs.declared.lacks.Name.{Name}
-use Rattle.inv_terms.specs.declared.lacks.TermFault.TheVariants as faults
-use Rattle.inv_terms.specs.declared.lacks.Lack.{Lack}
+use Rattle.inv_terms.specs.declared.violations.Name.{Name}
+use Rattle.inv_terms.specs.declared.violations.TermFault.TheVariants as faults
+use Rattle.inv_terms.specs.declared.violations.ModelViolation.{ModelViolation}
 use Rattle.inv_terms.specs.Lacking.{missing_at, missing_from}
-use Rattle.inv_terms.specs.Validity.{missing_in, contexts, unlisted, earlier, first_lack}
-use Rattle.inv_terms.specs.Whole.{IsContextOf, IsMissing, IsLack, seats_in}
+use Rattle.inv_terms.specs.Validity.{missing_in, contexts, unlisted, earlier, first_violation}
+use Rattle.inv_terms.specs.Whole.{IsContextOf, IsMissing, IsViolation, seats_in}
 use Rattle.inv_terms.proofs.ContextLemmas.{here, there, member_cases, no_member, append_cases, append_front, append_back, context_shown, shown_context}
 
 -- ---- the earliest of lacks
 
 -- The first doesn't come before the second.
-abbrev NotBefore : Lack → Lack → Type 0
+abbrev NotBefore : ModelViolation → ModelViolation → Type 0
 NotBefore m l = precedes m.place l.place ≡ false
 
-not_before-trans : (m x l : Lack) → NotBefore m x → NotBefore x l → NotBefore m l
+not_before-trans : (m x l : ModelViolation) → NotBefore m x → NotBefore x l → NotBefore m l
 not_before-trans m x l h k = go (precedes m.place l.place) refl
   where
     go : (b : Bool) → precedes m.place l.place ≡ b → precedes m.place l.place ≡ false
     go false e = e
     go true e = absurd (false≢true (sym k ∙ not_less x.place m.place l.place h e))
 
-earlier_told : (a o : Option Lack) (l : Lack) → earlier a o ≡ Some l → (a ≡ Some l) ⊎ (o ≡ Some l)
+earlier_told : (a o : Option ModelViolation) (l : ModelViolation) → earlier a o ≡ Some l → (a ≡ Some l) ⊎ (o ≡ Some l)
 earlier_told None o l h = inr h
 earlier_told (Some a) None l h = inl h
 earlier_told (Some a) (Some b) l h = go (precedes b.place a.place) h
@@ -44,7 +44,8 @@ earlier_told (Some a) (Some b) l h = go (precedes b.place a.place) h
     go true k = inr k
     go false k = inl k
 
-fold_told : (os : List (Option Lack)) (a : Option Lack) (l : Lack) → fold earlier a os ≡ Some l → (a ≡ Some l) ⊎ Contains os (Some l)
+fold_told : (os : List (Option ModelViolation)) (a : Option ModelViolation) (l : ModelViolation) → fold earlier a os ≡ Some l → (a
+    ≡ Some l) ⊎ Contains os (Some l)
 fold_told [] a l h = inl h
 fold_told (o ∷ os) a l h = elim (fold_told os (earlier a o) l h) [
   | inr m ↦ inr (there o (Some l) os m)
@@ -52,21 +53,22 @@ fold_told (o ∷ os) a l h = elim (fold_told os (earlier a o) l h) [
 ]
 
 -- what two lacks are set against, and the lack that is kept
-earlier_first : (a o : Option Lack) (m : Lack) → (a ≡ Some m) ⊎ (o ≡ Some m) → (x : Lack) × (earlier a o ≡ Some x) × NotBefore m x
+earlier_first : (a o : Option ModelViolation) (m : ModelViolation) → (a ≡ Some m) ⊎ (o ≡ Some m) → (x : ModelViolation) × (earlier a o ≡ Some x) × NotBefore m x
 earlier_first None o m (inl e) = absurd (let k : None ≡ Some m = e in cc)
 earlier_first None o m (inr e) = (m, e, never_before_itself m.place)
-earlier_first (Some a) None m (inl e) = (a, refl, ap (λ (x : Lack). precedes x.place a.place) (sym (same_Some _ _ e)) ∙ never_before_itself a.place)
+earlier_first (Some a) None m (inl e) = (a, refl, ap (λ (x : ModelViolation). precedes x.place a.place) (sym (same_Some _ _ e)) ∙ never_before_itself a.place)
 earlier_first (Some a) None m (inr e) = absurd (let k : None ≡ Some m = e in cc)
 earlier_first (Some a) (Some b) m h = go (precedes b.place a.place) refl h
   where
-    go : (t : Bool) → precedes b.place a.place ≡ t → (Some a ≡ Some m) ⊎ (Some b ≡ Some m) → (x : Lack) × ((if t then Some b else Some a) ≡ Some x) ×
+    go : (t : Bool) → precedes b.place a.place ≡ t → (Some a ≡ Some m) ⊎ (Some b ≡ Some m) → (x : ModelViolation) × ((if t then Some b else Some a) ≡ Some x) ×
         NotBefore m x
-    go true p (inl e) = (b, refl, ap (λ (x : Lack). precedes x.place b.place) (sym (same_Some _ _ e)) ∙ not_both_ways b.place a.place p)
-    go true p (inr e) = (b, refl, ap (λ (x : Lack). precedes x.place b.place) (sym (same_Some _ _ e)) ∙ never_before_itself b.place)
-    go false p (inl e) = (a, refl, ap (λ (x : Lack). precedes x.place a.place) (sym (same_Some _ _ e)) ∙ never_before_itself a.place)
-    go false p (inr e) = (a, refl, ap (λ (x : Lack). precedes x.place a.place) (sym (same_Some _ _ e)) ∙ p)
+    go true p (inl e) = (b, refl, ap (λ (x : ModelViolation). precedes x.place b.place) (sym (same_Some _ _ e)) ∙ not_both_ways b.place a.place p)
+    go true p (inr e) = (b, refl, ap (λ (x : ModelViolation). precedes x.place b.place) (sym (same_Some _ _ e)) ∙ never_before_itself b.place)
+    go false p (inl e) = (a, refl, ap (λ (x : ModelViolation). precedes x.place a.place) (sym (same_Some _ _ e)) ∙ never_before_itself a.place)
+    go false p (inr e) = (a, refl, ap (λ (x : ModelViolation). precedes x.place a.place) (sym (same_Some _ _ e)) ∙ p)
 
-fold_first : (os : List (Option Lack)) (a : Option Lack) (m : Lack) → (a ≡ Some m) ⊎ Contains os (Some m) → (l : Lack) × (fold earlier a os ≡ Some l) ×
+fold_first : (os : List (Option ModelViolation)) (a : Option ModelViolation) (m : ModelViolation) → (a ≡ Some m) ⊎ Contains os (Some m) → (l : ModelViolation)
+    × (fold earlier a os ≡ Some l) ×
     NotBefore m l
 fold_first [] a m (inl e) = (m, e, never_before_itself m.place)
 fold_first [] a m (inr w) = absurd (no_member (Some m) w)
@@ -109,22 +111,22 @@ later_row c j k l = elim (up_to j k l) [
     up_to j k l = grind arith
 
 -- a lack at a row, as it is found
-record At (seats : List Seat) (c : Context) (n : ℕ) (rows : List TermRow) (l : Lack) : Type 0 where
+record At (seats : List Seat) (c : Context) (n : ℕ) (rows : List TermRow) (l : ModelViolation) : Type 0 where
   number : ℕ
   row : TermRow
   is_row : slice_get rows number ≡ Some row
   name : Name
   missing : missing_at seats c (n + number) row ≡ Some name
-  lack_is : l ≡ record { place = place (n + number) c; fault = faults.Missing name }
+  violation_is : l ≡ record { place = place (n + number) c; fault = faults.Missing name }
 
 name_cases : (o : Option Name) → ((name : Name) × (o ≡ Some name)) ⊎ (o ≡ None)
 name_cases None = inr refl
 name_cases (Some name) = inl (name, refl)
 
-abbrev step : List Seat → Context → ℕ → List TermRow → Option Name → Option Lack
+abbrev step : List Seat → Context → ℕ → List TermRow → Option Name → Option ModelViolation
 step seats c n rows o = elim o [ Some name ↦ Some (record { place = place n c; fault = faults.Missing name }) | None ↦ missing_from seats c (n + 1) rows ]
 
-told_at : (seats : List Seat) (c : Context) (n : ℕ) (rows : List TermRow) (l : Lack) → missing_from seats c n rows ≡ Some l → At seats c n rows l
+told_at : (seats : List Seat) (c : Context) (n : ℕ) (rows : List TermRow) (l : ModelViolation) → missing_from seats c n rows ≡ Some l → At seats c n rows l
 told_at seats c n [] l h = absurd (let k : None ≡ Some l = h in cc)
 told_at seats c n (row ∷ rows) l h = elim (name_cases (missing_at seats c n row)) [
   | inl w ↦
@@ -136,7 +138,7 @@ told_at seats c n (row ∷ rows) l h = elim (name_cases (missing_at seats c n ro
         is_row = refl;
         name = w.0;
         missing = ap (λ i. missing_at seats c i row) z ∙ w.1;
-        lack_is = sym (same_Some _ _ k) ∙ ap (λ i. record { place = place i c; fault = faults.Missing w.0 }) (sym z);
+        violation_is = sym (same_Some _ _ k) ∙ ap (λ i. record { place = place i c; fault = faults.Missing w.0 }) (sym z);
       }
   | inr none ↦
       let k : step seats c n rows None ≡ Some l = ap (step seats c n rows) (sym none) ∙ h in
@@ -148,12 +150,12 @@ told_at seats c n (row ∷ rows) l h = elim (name_cases (missing_at seats c n ro
         is_row = a.is_row;
         name = a.name;
         missing = ap (λ i. missing_at seats c i a.row) (sym z) ∙ a.missing;
-        lack_is = a.lack_is ∙ ap (λ i. record { place = place i c; fault = faults.Missing a.name }) z;
+        violation_is = a.violation_is ∙ ap (λ i. record { place = place i c; fault = faults.Missing a.name }) z;
       }
 ]
 
 found_at : (seats : List Seat) (c : Context) (n : ℕ) (rows : List TermRow) (k : ℕ) (row : TermRow) (name : Name) → slice_get rows k ≡ Some row
-    → missing_at seats c (n + k) row ≡ Some name → (l : Lack) × (missing_from seats c n rows ≡ Some l) × (precedes (place (n + k) c) l.place ≡ false)
+    → missing_at seats c (n + k) row ≡ Some name → (l : ModelViolation) × (missing_from seats c n rows ≡ Some l) × (precedes (place (n + k) c) l.place ≡ false)
 found_at seats c n [] zero row name at h = cc
 found_at seats c n [] (suc k) row name at h = cc
 found_at seats c n (r ∷ rows) zero row name at h =
@@ -188,7 +190,7 @@ map_to f (z ∷ xs) x y w e = elim (member_cases z x xs w) [
 zero_more : (k : ℕ) → 0 + k ≡ k
 zero_more k = omega arith
 
-missing_told : (es : List Entry) (c : Context) (l : Lack) → IsContextOf es c → missing_in es c ≡ Some l → IsMissing es l
+missing_told : (es : List Entry) (c : Context) (l : ModelViolation) → IsContextOf es c → missing_in es c ≡ Some l → IsMissing es l
 missing_told es c l shown h =
     let a = told_at (seats_in es c) c 0 terms l h in
     record {
@@ -199,10 +201,10 @@ missing_told es c l shown h =
       is_row = a.is_row;
       name = a.name;
       missing = ap (λ i. missing_at (seats_in es c) c i a.row) (sym (zero_more a.number)) ∙ a.missing;
-      lack_is = a.lack_is ∙ ap (λ i. record { place = place i c; fault = faults.Missing a.name }) (zero_more a.number);
+      violation_is = a.violation_is ∙ ap (λ i. record { place = place i c; fault = faults.Missing a.name }) (zero_more a.number);
     }
 
-pub told : (es : List Entry) (lists : Lists) (l : Lack) → first_lack es lists ≡ Some l → IsLack es lists l
+pub told : (es : List Entry) (lists : Lists) (l : ModelViolation) → first_violation es lists ≡ Some l → IsViolation es lists l
 told es lists l h = elim (fold_told (map (missing_in es) (contexts es) ++ map (unlisted lists) es) None l h) [
   | inl e ↦ absurd (let k : None ≡ Some l = e in cc)
   | inr w ↦ elim (append_cases (Some l) (map (missing_in es) (contexts es)) (map (unlisted lists) es) w) [
@@ -212,22 +214,24 @@ told es lists l h = elim (fold_told (map (missing_in es) (contexts es) ++ map (u
 ]
 
 -- Each lack is one that isn't before the one that is told.
-pub each_lack : (es : List Entry) (lists : Lists) (m : Lack) → IsLack es lists m → (l : Lack) × (first_lack es lists ≡ Some l) × NotBefore m l
-each_lack es lists m (inl w) =
+pub each_violation : (es : List Entry) (lists : Lists) (m : ModelViolation) → IsViolation es lists m → (l : ModelViolation) × (first_violation es lists
+    ≡ Some l) × NotBefore m l
+each_violation es lists m (inl w) =
     let a = found_at (seats_in es w.context) w.context 0 terms w.number w.row w.name w.is_row
     (ap (λ i. missing_at (seats_in es w.context) w.context i w.row) (zero_more w.number) ∙ w.missing) in
     let v = fold_first (map (missing_in es) (contexts es) ++ map (unlisted lists) es) None a.0
     (inr (append_front (Some a.0) (map (missing_in es) (contexts es)) (map (unlisted lists) es)
     (map_to (missing_in es) (contexts es) w.context (Some a.0) (shown_context es w.context w.is_context) a.1))) in
-    let first : NotBefore m a.0 = ap (λ (x : Lack). precedes x.place a.0.place) w.lack_is ∙
+    let first : NotBefore m a.0 = ap (λ (x : ModelViolation). precedes x.place a.0.place) w.violation_is ∙
     (ap (λ i. precedes (place i w.context) a.0.place) (sym (zero_more w.number)) ∙ a.2) in
     (v.0, v.1, not_before-trans m a.0 v.0 first v.2)
-each_lack es lists m (inr w) =
+each_violation es lists m (inr w) =
     fold_first (map (missing_in es) (contexts es) ++ map (unlisted lists) es) None m
     (inr (append_back (Some m) (map (missing_in es) (contexts es)) (map (unlisted lists) es) (map_to (unlisted lists) es w.0 (Some m) w.1 w.2)))
 
-pub first : (es : List Entry) (lists : Lists) (l m : Lack) → first_lack es lists ≡ Some l → IsLack es lists m → precedes m.place l.place ≡ false
+pub first : (es : List Entry) (lists : Lists) (l m : ModelViolation) → first_violation es lists ≡ Some l → IsViolation es lists m → precedes m.place l.place
+    ≡ false
 first es lists l m h k =
-    let w = each_lack es lists m k in
+    let w = each_violation es lists m k in
     let same : w.0 ≡ l = same_Some _ _ (sym w.1 ∙ h) in
-    subst (λ (x : Lack). precedes m.place x.place ≡ false) same w.2
+    subst (λ (x : ModelViolation). precedes m.place x.place ≡ false) same w.2

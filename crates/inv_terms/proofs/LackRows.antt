@@ -12,11 +12,11 @@ use Rattle.term_table.specs.Places.{first_row}
 use Rattle.inv_terms.specs.declared.values.Value.TheVariants as values
 use Rattle.inv_terms.specs.declared.entries.Entry.{Entry}
 use Rattle.inv_terms.specs.Listing.{in_outer}
-use Rattle.inv_terms.specs.declared.lacks.Name.TheVariants as names
-use Rattle.inv_terms.specs.declared.lacks.TermFault.{TermFault}
-use Rattle.inv_terms.specs.declared.lacks.TermFault.TheVariants as faults
-use Rattle.inv_terms.specs.declared.lacks.Lack.{Lack}
-use Rattle.inv_terms.specs.Validity.{first_lack}
+use Rattle.inv_terms.specs.declared.violations.Name.TheVariants as names
+use Rattle.inv_terms.specs.declared.violations.TermFault.{TermFault}
+use Rattle.inv_terms.specs.declared.violations.TermFault.TheVariants as faults
+use Rattle.inv_terms.specs.declared.violations.ModelViolation.{ModelViolation}
+use Rattle.inv_terms.specs.Validity.{first_violation}
 
 bt : ℕ → Term
 bt n = record { number = n; part = 0 }
@@ -26,7 +26,7 @@ entry : ℕ → Entry
 entry n = record { context = root_context; term = bt n; value = values.Text [] }
 
 fault : List Entry → Option TermFault
-fault es = option_map (λ (lack : Lack). lack.fault) (first_lack es built_in_lists)
+fault es = option_map (λ (violation : ModelViolation). violation.fault) (first_violation es built_in_lists)
 
 -- an invoice without entries, and with the first
 nothing : fault [] ≡ Some (faults.Missing (names.Term (bt 1)))

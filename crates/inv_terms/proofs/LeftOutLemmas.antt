@@ -9,16 +9,16 @@ use Rattle.term_table.specs.declared.contexts.Seat.{Seat}
 use Rattle.term_table.specs.Contexts.{has_context}
 use Rattle.term_table.specs.Groups.{occurrence_of, parent_of}
 use Rattle.term_table.specs.Places.{first_row}
-use Rattle.inv_terms.specs.declared.lacks.Name.{Name}
-use Rattle.inv_terms.specs.declared.lacks.Name.TheVariants as names
+use Rattle.inv_terms.specs.declared.violations.Name.{Name}
+use Rattle.inv_terms.specs.declared.violations.Name.TheVariants as names
 use Rattle.inv_terms.specs.Lacking.{has, whole_term, is_there, is_missing, is_at_least_once, has_occurrence, lacks_group, may_be_left_out, missing_at}
 
 abbrev left_out_by : Mark → Bool → Bool
 left_out_by mark once = elim mark [ marks.One ↦ false | marks.Optional ↦ not once | marks.After ↦ false ]
 
 abbrev missing_by : Bool → Bool → Bool → TermRow → Option Name
-missing_by here missing lacks row =
-    if here then (if missing then Some (names.Term row.term) else None) else (if lacks then Some (names.Group row.group) else None)
+missing_by here missing violations row =
+    if here then (if missing then Some (names.Term row.term) else None) else (if violations then Some (names.Group row.group) else None)
 
 none-missing : (here : Bool) (row : TermRow) → missing_by here false false row ≡ None
 none-missing true row = refl
@@ -40,8 +40,9 @@ module _ (seats : List Seat) (context : Context) (k : ℕ) (row : TermRow) where
       by marks.Optional e =
           let left : not once ≡ true = sym (ap (λ m. left_out_by m once) e) ∙ h in
           let missing : is_missing seats context row ≡ false = ap (λ m. needed_by m && not (has seats context row.term)) e in
-          let lacks : lacks_group seats context k row ≡ false =
+          let violations : lacks_group seats context k row ≡ false =
           ap (λ t. t && ((k == first_row row.group) && (has_context (parent_of row.group) context && not (has_occurrence seats row.group))))
           (not-true once left) in
           let here = has_context row.group context in
-          sym (ap (λ t. missing_by here t (lacks_group seats context k row) row) missing ∙ (ap (λ t. missing_by here false t row) lacks ∙ none-missing here row))
+          sym (ap (λ t. missing_by here t (lacks_group seats context k row) row) missing ∙ (ap (λ t. missing_by here false t row) violations
+              ∙ none-missing here row))

@@ -13,8 +13,8 @@ use Rattle.term_table.specs.Groups.{same_group, parent_of, occurrence_of}
 use Rattle.term_table.specs.Contexts.{outer_group, same_groups, has_context}
 use Rattle.term_table.proofs.GroupLemmas.{both, same_group_is}
 use Rattle.term_table.specs.Places.{first_row, place}
-use Rattle.inv_terms.specs.declared.lacks.Name.{Name}
-use Rattle.inv_terms.specs.declared.lacks.TermFault.TheVariants as faults
+use Rattle.inv_terms.specs.declared.violations.Name.{Name}
+use Rattle.inv_terms.specs.declared.violations.TermFault.TheVariants as faults
 use Rattle.inv_terms.specs.Lacking as spec
 use Rattle.inv_terms.specs.LineRows.{first_for, first_row_in}
 

@@ -12,7 +12,7 @@ use Rattle.term_table.specs.declared.contexts.Context.{Context}
 use Rattle.term_table.specs.SemanticModel.{same_term}
 use Rattle.inv_terms.specs.declared.presence.Presence.{Presence}
 use Rattle.inv_terms.specs.Presences.{may_have, place_of, AreKnown, has_number_of}
-use Rattle.inv_terms.specs.Lacking as lacks
+use Rattle.inv_terms.specs.Lacking as violations
 
 -- ---- what is noted of seats
 
@@ -98,14 +98,14 @@ other presence term s none has = elim (cases_Bool (s.term.number == term.number)
 ]
 
 pub has-no_term : (presence : Presence) (term : Term) → may_have presence term ≡ false → (seats : List Seat) → AreKnown presence seats →
-    lacks.has_term seats term ≡ false
+    violations.has_term seats term ≡ false
 has-no_term presence term none [] known = refl
 has-no_term presence term none (s ∷ seats) known =
     rw (other presence term s none (All-head (λ (x : Seat). may_have presence x.term ≡ true) s seats known))
     (has-no_term presence term none seats (All-tail (λ (x : Seat). may_have presence x.term ≡ true) s seats known))
 
 pub has-none : (presence : Presence) (term : Term) (context : Context) → may_have presence term ≡ false → (seats : List Seat) → AreKnown presence seats →
-    lacks.has seats context term ≡ false
+    violations.has seats context term ≡ false
 has-none presence term context none [] known = refl
 has-none presence term context none (s ∷ seats) known =
     rw (other presence term s none (All-head (λ (x : Seat). may_have presence x.term ≡ true) s seats known))

@@ -3,7 +3,7 @@ use Rattle.std.proofs.Common.{◌≡◌, ℕ, [], ◌∷◌, Some, None, codes, 
 use Rattle.inv_base.specs.Characters.{is_char, is_white_space}
 use Rattle.inv_decimal.specs.WrittenNumber.{read_scaled, written_units}
 use Rattle.term_table.specs.declared.groups.Group.TheVariants as groups
-use Rattle.term_table.specs.declared.terms.Letter.TheVariants as letters
+use Rattle.term_table.specs.declared.terms.DataType.TheVariants as data_types
 use Rattle.term_table.specs.declared.terms.Term.{Term}
 use Rattle.inv_terms.specs.declared.values.Value.TheVariants as values
 use Rattle.inv_terms.specs.declared.entries.Entry.{Entry}
@@ -25,19 +25,19 @@ entry n = record { context = root_context; term = bt n; value = values.Text [] }
 note : ℕ → ℕ → Entry
 note index n = record { context = in_outer (record { group = groups.InvoiceNote; index = index }); term = bt n; value = values.Text [] }
 
-identifier : value_of letters.I (codes " a ") ≡ Some (values.Identifier (codes "a"))
+identifier : value_of data_types.I (codes " a ") ≡ Some (values.Identifier (codes "a"))
 unfolding value_of is_char is_white_space
 identifier = refl
 
-no_identifier : value_of letters.I (codes " ") ≡ None
+no_identifier : value_of data_types.I (codes " ") ≡ None
 unfolding value_of is_char is_white_space
 no_identifier = refl
 
-text : value_of letters.T (codes " a ") ≡ Some (values.Text (codes " a "))
+text : value_of data_types.T (codes " a ") ≡ Some (values.Text (codes " a "))
 unfolding value_of is_char is_white_space
 text = refl
 
-no_amount : value_of letters.A (codes "1,0") ≡ None
+no_amount : value_of data_types.A (codes "1,0") ≡ None
 unfolding value_of is_char is_white_space read_scaled written_units
 no_amount = refl
 

@@ -18,8 +18,8 @@ use Rattle.inv_decimal.specs.CivilDay.{CivilDay, IsDay}
 use Rattle.inv_decimal.specs.Digits.{last_digits}
 use Rattle.inv_decimal.specs.WrittenNumber.{read_scaled, scaled_text, IsWritten, IsSign, IsTail, are_number_parts}
 use Rattle.inv_decimal.specs.WrittenDay.{read_dashed_day, dashed_day_text}
-use Rattle.term_table.specs.declared.terms.Letter.{Letter}
-use Rattle.term_table.specs.declared.terms.Letter.TheVariants as letters
+use Rattle.term_table.specs.declared.terms.DataType.{DataType}
+use Rattle.term_table.specs.declared.terms.DataType.TheVariants as data_types
 use Rattle.term_table.proofs.GroupLemmas.{both}
 use Rattle.inv_terms.specs.declared.values.Value.{Value}
 use Rattle.inv_terms.specs.declared.values.Value.TheVariants as values
@@ -209,22 +209,22 @@ unless true x y h = absurd (let k : None ≡ Some y = h in cc)
 unless false x y h = (refl, same_Some _ _ h)
 
 -- a text that reads as a value, and is written as it stands, or trimmed
-record Reads (letter : Letter) (text : List ℕ) (value : Value) : Type 0 where
+record Reads (data_type : DataType) (text : List ℕ) (value : Value) : Type 0 where
   chars_alone : list_all is_char text ≡ true
-  by_type : value_by letter text ≡ Some value
+  by_type : value_by data_type text ≡ Some value
 
-reads-from : (letter : Letter) (text : List ℕ) (value : Value) → value_of letter text ≡ Some value → Reads letter text value
+reads-from : (data_type : DataType) (text : List ℕ) (value : Value) → value_of data_type text ≡ Some value → Reads data_type text value
 unfolding value_of
-reads-from letter text value h = go (list_all is_char text) refl h
+reads-from data_type text value h = go (list_all is_char text) refl h
   where
-    go : (b : Bool) → list_all is_char text ≡ b → (if b then value_by letter text else None) ≡ Some value → Reads letter text value
+    go : (b : Bool) → list_all is_char text ≡ b → (if b then value_by data_type text else None) ≡ Some value → Reads data_type text value
     go true e k = record { chars_alone = e; by_type = k }
     go false e k = absurd (let u : None ≡ Some value = k in cc)
 
-reads-to : (letter : Letter) (text : List ℕ) (value : Value) → list_all is_char text ≡ true → value_by letter text ≡ Some value →
-    value_of letter text ≡ Some value
+reads-to : (data_type : DataType) (text : List ℕ) (value : Value) → list_all is_char text ≡ true → value_by data_type text ≡ Some value →
+    value_of data_type text ≡ Some value
 unfolding value_of
-reads-to letter text value h k = rw h k
+reads-to data_type text value h k = rw h k
 
 module _ (scaled : (s : ScaledDecimal) → IsScaled s → read_scaled (scaled_text s) ≡ Some s)
     (grammar : (text : List ℕ) (s : ScaledDecimal) → read_scaled text ≡ Some s → IsWritten text s)
@@ -265,46 +265,48 @@ module _ (scaled : (s : ScaledDecimal) → IsScaled s → read_scaled (scaled_te
       (ap (list_all is_char) (sym u.1) ∙ trimmed-passes is_char text h, ap (λ x. if is_code x then Some x else None) twice ∙ k)
 
   -- one type: what reads back, and how it is written
-  back : (letter : Letter) (text : List ℕ) (value : Value) → Reads letter text value → value_of letter (spelled value) ≡ Some value
-  back letters.T text value r =
+  back : (data_type : DataType) (text : List ℕ) (value : Value) → Reads data_type text value → value_of data_type (spelled value) ≡ Some value
+  back data_types.T text value r =
       let w = taken values.Text (text_of text) value r.by_type in
       let u = text-back text w.0 r.chars_alone w.1 in
-      subst (λ v. value_of letters.T (spelled v) ≡ Some v) w.2 (reads-to letters.T w.0 (values.Text w.0) u.0 (ap (option_map values.Text) u.1))
-  back letters.I text value r =
+      subst (λ v. value_of data_types.T (spelled v) ≡ Some v) w.2 (reads-to data_types.T w.0 (values.Text w.0) u.0 (ap (option_map values.Text) u.1))
+  back data_types.I text value r =
       let w = taken values.Identifier (identifier_of text) value r.by_type in
       let u = identifier-back text w.0 r.chars_alone w.1 in
-      subst (λ v. value_of letters.I (spelled v) ≡ Some v) w.2 (reads-to letters.I w.0 (values.Identifier w.0) u.0 (ap (option_map values.Identifier) u.1))
-  back letters.C text value r =
+      subst (λ v. value_of data_types.I (spelled v) ≡ Some v) w.2 (reads-to data_types.I w.0 (values.Identifier w.0) u.0 (ap (option_map values.Identifier)
+          u.1))
+  back data_types.C text value r =
       let w = taken values.Code (code_of text) value r.by_type in
       let u = code-back text w.0 r.chars_alone w.1 in
-      subst (λ v. value_of letters.C (spelled v) ≡ Some v) w.2 (reads-to letters.C w.0 (values.Code w.0) u.0 (ap (option_map values.Code) u.1))
-  back letters.A text value r =
+      subst (λ v. value_of data_types.C (spelled v) ≡ Some v) w.2 (reads-to data_types.C w.0 (values.Code w.0) u.0 (ap (option_map values.Code) u.1))
+  back data_types.A text value r =
       let w = taken values.Amount (read_scaled (trimmed text)) value r.by_type in
       let u = number-back (trimmed text) w.0 w.1 in
-      subst (λ v. value_of letters.A (spelled v) ≡ Some v) w.2
-      (reads-to letters.A (scaled_text w.0) (values.Amount w.0) u.0 (ap (option_map values.Amount) u.1))
-  back letters.Q text value r =
+      subst (λ v. value_of data_types.A (spelled v) ≡ Some v) w.2
+      (reads-to data_types.A (scaled_text w.0) (values.Amount w.0) u.0 (ap (option_map values.Amount) u.1))
+  back data_types.Q text value r =
       let w = taken values.Quantity (read_scaled (trimmed text)) value r.by_type in
       let u = number-back (trimmed text) w.0 w.1 in
-      subst (λ v. value_of letters.Q (spelled v) ≡ Some v) w.2
-      (reads-to letters.Q (scaled_text w.0) (values.Quantity w.0) u.0 (ap (option_map values.Quantity) u.1))
-  back letters.P text value r =
+      subst (λ v. value_of data_types.Q (spelled v) ≡ Some v) w.2
+      (reads-to data_types.Q (scaled_text w.0) (values.Quantity w.0) u.0 (ap (option_map values.Quantity) u.1))
+  back data_types.P text value r =
       let w = taken values.Percent (read_scaled (trimmed text)) value r.by_type in
       let u = number-back (trimmed text) w.0 w.1 in
-      subst (λ v. value_of letters.P (spelled v) ≡ Some v) w.2
-      (reads-to letters.P (scaled_text w.0) (values.Percent w.0) u.0 (ap (option_map values.Percent) u.1))
-  back letters.D text value r =
+      subst (λ v. value_of data_types.P (spelled v) ≡ Some v) w.2
+      (reads-to data_types.P (scaled_text w.0) (values.Percent w.0) u.0 (ap (option_map values.Percent) u.1))
+  back data_types.D text value r =
       let w = taken values.Date (read_dashed_day (trimmed text)) value r.by_type in
       let u = day-back (trimmed text) w.0 w.1 in
-      subst (λ v. value_of letters.D (spelled v) ≡ Some v) w.2
-      (reads-to letters.D (dashed_day_text w.0) (values.Date w.0) u.0 (ap (option_map values.Date) u.1))
-  back letters.B text value r =
+      subst (λ v. value_of data_types.D (spelled v) ≡ Some v) w.2
+      (reads-to data_types.D (dashed_day_text w.0) (values.Date w.0) u.0 (ap (option_map values.Date) u.1))
+  back data_types.B text value r =
       let w = taken values.Base64 (text_of text) value r.by_type in
       let u = text-back text w.0 r.chars_alone w.1 in
-      subst (λ v. value_of letters.B (spelled v) ≡ Some v) w.2 (reads-to letters.B w.0 (values.Base64 w.0) u.0 (ap (option_map values.Base64) u.1))
+      subst (λ v. value_of data_types.B (spelled v) ≡ Some v) w.2 (reads-to data_types.B w.0 (values.Base64 w.0) u.0 (ap (option_map values.Base64) u.1))
 
-  pub read_back : (letter : Letter) (text : List ℕ) (value : Value) → value_of letter text ≡ Some value → value_of letter (spelled value) ≡ Some value
-  read_back letter text value h = back letter text value (reads-from letter text value h)
+  pub read_back : (data_type : DataType) (text : List ℕ) (value : Value) → value_of data_type text ≡ Some value → value_of data_type (spelled value)
+      ≡ Some value
+  read_back data_type text value h = back data_type text value (reads-from data_type text value h)
 
 -- ---- texts in buffers
 

@@ -22,7 +22,7 @@ use Rattle.term_table.specs.declared.contexts.Seat.{Seat}
 use Rattle.term_table.specs.SemanticModel.{same_term, terms}
 use Rattle.term_table.specs.Groups.{parent_of, occurrence_of, may_repeat}
 use Rattle.term_table.specs.Contexts.{has_context, same_slot, same_context, is_inside, slot_group, same_groups, outer_group}
-use Rattle.term_table.specs.declared.terms.Letter.TheVariants as letters
+use Rattle.term_table.specs.declared.terms.DataType.TheVariants as data_types
 use Rattle.term_table.specs.Rows.{row_of}
 use Rattle.term_table.specs.Places.{first_row, place, place_of}
 use Rattle.term_table.proofs.GroupLemmas.{both}
@@ -32,16 +32,16 @@ use Rattle.inv_terms.specs.declared.values.Value.TheVariants as values
 use Rattle.inv_terms.specs.declared.entries.Entry.{Entry}
 use Rattle.inv_terms.specs.Listing.{seat_of}
 use Rattle.inv_terms.proofs.PushLemmas.{same_slot_itself, and_pair}
-use Rattle.inv_terms.specs.declared.lacks.Name.{Name}
-use Rattle.inv_terms.specs.declared.lacks.Name.TheVariants as names
-use Rattle.inv_terms.specs.declared.lacks.TermFault.TheVariants as faults
-use Rattle.inv_terms.specs.declared.lacks.Lack.{Lack}
+use Rattle.inv_terms.specs.declared.violations.Name.{Name}
+use Rattle.inv_terms.specs.declared.violations.Name.TheVariants as names
+use Rattle.inv_terms.specs.declared.violations.TermFault.TheVariants as faults
+use Rattle.inv_terms.specs.declared.violations.ModelViolation.{ModelViolation}
 use Rattle.inv_terms.specs.Lacking.{is_at, has, has_term, is_around, shows_its_group, stands, decided, first_decided, is_there, whole_term, is_needed}
 use Rattle.inv_terms.specs.Lacking.{is_missing, is_slot_in, has_occurrence, is_at_least_once, lacks_group, missing_at}
-use Rattle.inv_terms.specs.Validity.{first_lack, list_of, code_in, is_outside, is_unlisted, unlisted}
-use Rattle.inv_terms.specs.Whole.{IsContextOf, Stands, ShowsGroup, IsThere, IsMandatory, HasOccurrence, IsWhole, IsListed, IsValid, seats_in, IsLack}
+use Rattle.inv_terms.specs.Validity.{first_violation, list_of, code_in, is_outside, is_unlisted, unlisted}
+use Rattle.inv_terms.specs.Whole.{IsContextOf, Stands, ShowsGroup, IsThere, IsMandatory, HasOccurrence, IsWhole, IsListed, IsValid, seats_in, IsViolation}
 use Rattle.inv_terms.proofs.ContextLemmas.{here, there, member_cases, no_member, context_is}
-use Rattle.inv_terms.proofs.FirstLemmas.{told, each_lack}
+use Rattle.inv_terms.proofs.FirstLemmas.{told, each_violation}
 
 bool_cases : (b : Bool) → (b ≡ true) ⊎ (b ≡ false)
 bool_cases true = inl refl
@@ -330,7 +330,7 @@ record FirstRow (g : Group) : Type 0 where
 vat_breakdown : FirstRow groups.VatBreakdown
 unfolding terms first_row parent_of occurrence_of
 vat_breakdown = record {
-  row = record { term = record { number = 116; part = 0 }; group = groups.VatBreakdown; letter = letters.A; mark = marks.One; list = None };
+  row = record { term = record { number = 116; part = 0 }; group = groups.VatBreakdown; data_type = data_types.A; mark = marks.One; list = None };
   is_row = refl;
   group_is = refl;
   up = refl;
@@ -340,7 +340,7 @@ vat_breakdown = record {
 invoice_line : FirstRow groups.InvoiceLine
 unfolding terms first_row parent_of occurrence_of
 invoice_line = record {
-  row = record { term = record { number = 126; part = 0 }; group = groups.InvoiceLine; letter = letters.I; mark = marks.One; list = None };
+  row = record { term = record { number = 126; part = 0 }; group = groups.InvoiceLine; data_type = data_types.I; mark = marks.One; list = None };
   is_row = refl;
   group_is = refl;
   up = refl;
@@ -418,11 +418,11 @@ module _ (es : List Entry) (c : Context) where
         let none : (if lacks_group (seats_in es c) c k f.row then Some (names.Group f.row.group) else None) ≡ None =
         sym (ap (λ b. if b then (if is_missing (seats_in es c) c f.row then Some (names.Term f.row.term) else None) else
         (if lacks_group (seats_in es c) c k f.row then Some (names.Group f.row.group) else None)) off) ∙ h k f.row f.is_row in
-        let lacks : lacks_group (seats_in es c) c k f.row ≡ false = named _ (names.Group f.row.group) none in
+        let violations : lacks_group (seats_in es c) c k f.row ≡ false = named _ (names.Group f.row.group) none in
         let once : is_at_least_once (occurrence_of f.row.group) ≡ true = ap (λ x. is_at_least_once (occurrence_of x)) f.group_is ∙ ap is_at_least_once o in
         let first : (k == first_row f.row.group) ≡ true = ap (λ x. k == first_row x) f.group_is ∙ same_number k in
         let around : has_context (parent_of f.row.group) c ≡ true = ap (λ x. has_context (parent_of x) c) f.group_is ∙ at in
-        let shown : not (has_occurrence (seats_in es c) f.row.group) ≡ false = and_second _ _ (and_second _ _ (and_second _ _ lacks once) first) around in
+        let shown : not (has_occurrence (seats_in es c) f.row.group) ≡ false = and_second _ _ (and_second _ _ (and_second _ _ violations once) first) around in
         occurrence_from es c g (ap (has_occurrence (seats_in es c)) (sym f.group_is) ∙ not_false_is _ shown);
   }
     where
@@ -482,48 +482,49 @@ has_place e list h = go (row_of e.term e.context) refl
 
 -- ---- the law
 
-listed_from : (es : List Entry) (lists : Lists) → ((lack : Lack) → IsLack es lists lack → ⊥) → IsListed es lists
+listed_from : (es : List Entry) (lists : Lists) → ((violation : ModelViolation) → IsViolation es lists violation → ⊥) → IsListed es lists
 listed_from es lists none e list code member list_is value_is = elim (bool_cases (allows lists list code)) [
   | inl allowed ↦ allowed
   | inr refused ↦
       let p = has_place e list list_is in
       let found : is_unlisted lists e ≡ true = ap (λ o. is_outside lists o (code_in e.value)) list_is ∙
       (ap (λ v. is_outside lists (Some list) (code_in v)) value_is ∙ ap not refused) in
-      let lack : Lack = record { place = p.0; fault = faults.CodeNotListed e.term } in
-      let is : unlisted lists e ≡ Some lack = rw (found, p.1) refl in
-      absurd (none lack (inr (e, member, is)))
+      let violation : ModelViolation = record { place = p.0; fault = faults.CodeNotListed e.term } in
+      let is : unlisted lists e ≡ Some violation = rw (found, p.1) refl in
+      absurd (none violation (inr (e, member, is)))
 ]
 
-unlisted_is : (lists : Lists) (e : Entry) (lack : Lack) → unlisted lists e ≡ Some lack → is_unlisted lists e ≡ true
-unlisted_is lists e lack h = go (is_unlisted lists e) refl h
+unlisted_is : (lists : Lists) (e : Entry) (violation : ModelViolation) → unlisted lists e ≡ Some violation → is_unlisted lists e ≡ true
+unlisted_is lists e violation h = go (is_unlisted lists e) refl h
   where
     go : (b : Bool) → is_unlisted lists e ≡ b
-        → (if b then option_map (λ place. record { place = place; fault = faults.CodeNotListed e.term }) (place_of e.term e.context) else None) ≡ Some lack →
+        → (if b then option_map (λ place. record { place = place; fault = faults.CodeNotListed e.term }) (place_of e.term e.context) else None)
+            ≡ Some violation →
         is_unlisted lists e ≡ true
     go true k l = k
-    go false k l = absurd (let z : None ≡ Some lack = l in cc)
+    go false k l = absurd (let z : None ≡ Some violation = l in cc)
 
-no_lack : (es : List Entry) (lists : Lists) → IsValid es lists → (lack : Lack) → IsLack es lists lack → ⊥
-no_lack es lists v lack (inl m) =
+no_violation : (es : List Entry) (lists : Lists) → IsValid es lists → (violation : ModelViolation) → IsViolation es lists violation → ⊥
+no_violation es lists v violation (inl m) =
     let none = whole_to es m.context (v.whole m.context m.is_context) m.number m.row m.is_row in
     let z : None ≡ Some m.name = sym none ∙ m.missing in
     cc
-no_lack es lists v lack (inr w) =
-    let o = outside_is lists (list_of w.0.term w.0.context) (code_in w.0.value) (unlisted_is lists w.0 lack w.2) in
+no_violation es lists v violation (inr w) =
+    let o = outside_is lists (list_of w.0.term w.0.context) (code_in w.0.value) (unlisted_is lists w.0 violation w.2) in
     false≢true (sym o.4 ∙ v.listed w.0 o.0 o.1 w.1 o.2 (code_is w.0.value o.1 o.3))
 
-pub valid : (es : List Entry) (lists : Lists) → ((first_lack es lists ≡ None) ↔ IsValid es lists)
+pub valid : (es : List Entry) (lists : Lists) → ((first_violation es lists ≡ None) ↔ IsValid es lists)
 valid es lists = (there_is, nothing)
   where
-    there_is : first_lack es lists ≡ None → IsValid es lists
+    there_is : first_violation es lists ≡ None → IsValid es lists
     there_is h = record {
       whole = λ c shown. whole_from es c (λ k row is_row. every c shown k row is_row (missing_at (seats_in es c) c k row) refl);
       listed = listed_from es lists (refused h);
     }
       where
-        refused : first_lack es lists ≡ None → (lack : Lack) → IsLack es lists lack → ⊥
-        refused h lack is =
-            let w = each_lack es lists lack is in
+        refused : first_violation es lists ≡ None → (violation : ModelViolation) → IsViolation es lists violation → ⊥
+        refused h violation is =
+            let w = each_violation es lists violation is in
             let z : None ≡ Some w.0 = sym h ∙ w.1 in
             cc
 
@@ -532,11 +533,11 @@ valid es lists = (there_is, nothing)
             → missing_at (seats_in es c) c k row ≡ None
         every c shown k row is_row None e = e
         every c shown k row is_row (Some name) e = absurd (refused h (record { place = place k c; fault = faults.Missing name })
-            (inl (record { context = c; is_context = shown; number = k; row = row; is_row = is_row; name = name; missing = e; lack_is = refl })))
+            (inl (record { context = c; is_context = shown; number = k; row = row; is_row = is_row; name = name; missing = e; violation_is = refl })))
 
-    nothing : IsValid es lists → first_lack es lists ≡ None
-    nothing v = go (first_lack es lists) refl
+    nothing : IsValid es lists → first_violation es lists ≡ None
+    nothing v = go (first_violation es lists) refl
       where
-        go : (o : Option Lack) → first_lack es lists ≡ o → first_lack es lists ≡ None
+        go : (o : Option ModelViolation) → first_violation es lists ≡ o → first_violation es lists ≡ None
         go None e = e
-        go (Some l) e = absurd (no_lack es lists v l (told es lists l e))
+        go (Some l) e = absurd (no_violation es lists v l (told es lists l e))

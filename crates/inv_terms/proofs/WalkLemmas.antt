@@ -10,7 +10,7 @@ use Rattle.std.proofs.lemmas.List.Folds.{list_all-append}
 use Rattle.term_table.specs.declared.contexts.Slot.{Slot}
 use Rattle.term_table.specs.declared.contexts.Context.{Context}
 use Rattle.inv_terms.specs.declared.entries.Entry.{Entry}
-use Rattle.inv_terms.specs.declared.lacks.Lack.{Lack}
+use Rattle.inv_terms.specs.declared.violations.ModelViolation.{ModelViolation}
 use Rattle.term_table.specs.Contexts.{same_slot, same_context, is_inside, root_context, outer_context}
 use Rattle.term_table.specs.Places.{seat_place}
 use Rattle.inv_terms.specs.Listing.{comes_before, is_listed, is_placed, seat_of, IsInvoice}
@@ -220,7 +220,7 @@ module _ (pre : List Entry) (e : Entry) (behind : List Entry) (before : Context)
 
 -- ---- the walk over the entries
 
-pub record Walk (es : List Entry) (before : Context) (rest : List Entry) (first : Option Lack) : Type 0 where
+pub record Walk (es : List Entry) (before : Context) (rest : List Entry) (first : Option ModelViolation) : Type 0 where
   pub gone : List Entry
   pub whole : es ≡ gone ++ rest
   pub last : before ≡ last_context gone
@@ -239,13 +239,14 @@ walk_begins es = record {
   so_far = ap (λ x. fold earlier (first_missing (map seat_of x) root_context) (map (missing_in es) (contexts_behind root_context es))) (sym (filter_all es));
 }
 
-if_same : (b : Bool) (f g : Context → Option Lack) (c : Context) → (b ≡ true → f c ≡ g c) → map f (if b then c ∷ [] else []) ≡ map g (if b then c ∷ [] else [])
+if_same : (b : Bool) (f g : Context → Option ModelViolation) (c : Context) → (b ≡ true → f c ≡ g c) → map f (if b then c ∷ [] else [])
+    ≡ map g (if b then c ∷ [] else [])
 if_same true f g c h = ap (λ x. x ∷ []) (h refl)
 if_same false f g c h = refl
 
-pub walk_goes_on : (es : List Entry) (before : Context) (e : Entry) (behind : List Entry) (first : Option Lack) → IsInvoice es →
+pub walk_goes_on : (es : List Entry) (before : Context) (e : Entry) (behind : List Entry) (first : Option ModelViolation) → IsInvoice es →
     Walk es before (e ∷ behind) first
-    → (outer inner : Option Lack)
+    → (outer inner : Option ModelViolation)
     → outer ≡ fold earlier first (map (opened_missing (e ∷ behind)) (if opens_outer before e.context then outer_context e.context ∷ [] else []))
     → inner ≡ fold earlier outer (map (opened_missing (e ∷ behind)) (if opens_inner before e.context then e.context ∷ [] else []))
     → Walk es e.context behind inner
@@ -256,8 +257,8 @@ walk_goes_on es before e behind first i w outer inner o n =
     let at_e : At e = at_placed e (both (is_placed e) _ placed.1).0 in
     let a : List Context = if opens_outer before e.context then outer_context e.context ∷ [] else [] in
     let b : List Context = if opens_inner before e.context then e.context ∷ [] else [] in
-    let m : Context → Option Lack = missing_in es in
-    let k : Context → Option Lack = opened_missing (e ∷ behind) in
+    let m : Context → Option ModelViolation = missing_in es in
+    let k : Context → Option ModelViolation = opened_missing (e ∷ behind) in
     let ma : map m a ≡ map k a = if_same (opens_outer before e.context) m k (outer_context e.context) (λ t.
     ap (λ x. missing_in x (outer_context e.context)) w.whole ∙ missing_outer w.gone e behind before listed w.last t) in
     let mb : map m b ≡ map k b = if_same (opens_inner before e.context) m k e.context (λ t.
@@ -283,9 +284,9 @@ walk_goes_on es before e behind first i w outer inner o n =
         go (Some place) p k = (at-place (seat_of e) place p).0
 
 -- the same, where the rest begins with the entry
-pub walk_step : (es : List Entry) (before : Context) (rest : List Entry) (e : Entry) (behind : List Entry) (first : Option Lack) → rest ≡ e ∷ behind →
+pub walk_step : (es : List Entry) (before : Context) (rest : List Entry) (e : Entry) (behind : List Entry) (first : Option ModelViolation) → rest ≡ e ∷ behind →
     IsInvoice es
-    → Walk es before rest first → (outer inner : Option Lack)
+    → Walk es before rest first → (outer inner : Option ModelViolation)
     → outer ≡ fold earlier first (map (opened_missing rest) (if opens_outer before e.context then outer_context e.context ∷ [] else []))
     → inner ≡ fold earlier outer (map (opened_missing rest) (if opens_inner before e.context then e.context ∷ [] else []))
     → Walk es e.context behind inner

@@ -15,10 +15,10 @@ use Rattle.term_table.specs.SemanticModel.{same_term, terms}
 use Rattle.term_table.specs.Groups.{same_group, parent_of, occurrence_of}
 use Rattle.term_table.specs.Contexts.{has_context, same_context}
 use Rattle.term_table.specs.Places.{first_row, place}
-use Rattle.inv_terms.specs.declared.lacks.Name.{Name}
-use Rattle.inv_terms.specs.declared.lacks.Name.TheVariants as names
-use Rattle.inv_terms.specs.declared.lacks.TermFault.TheVariants as faults
-use Rattle.inv_terms.specs.declared.lacks.Lack.{Lack}
+use Rattle.inv_terms.specs.declared.violations.Name.{Name}
+use Rattle.inv_terms.specs.declared.violations.Name.TheVariants as names
+use Rattle.inv_terms.specs.declared.violations.TermFault.TheVariants as faults
+use Rattle.inv_terms.specs.declared.violations.ModelViolation.{ModelViolation}
 
 -- ---- which groups are there. The seats are those of one context and the contexts inside it.
 
@@ -111,7 +111,7 @@ missing_at seats context k row =
     else (if lacks_group seats context k row then Some (names.Group row.group) else None)
 
 -- the first of the rows from the k-th on at which something is missing
-abbrev pub missing_from : List Seat → Context → ℕ → List TermRow → Option Lack
+abbrev pub missing_from : List Seat → Context → ℕ → List TermRow → Option ModelViolation
 missing_from seats context k [] = None
 missing_from seats context k (row ∷ rows) = elim (missing_at seats context k row) [
   | Some name ↦ Some (record { place = place k context; fault = faults.Missing name })
@@ -119,13 +119,13 @@ missing_from seats context k (row ∷ rows) = elim (missing_at seats context k r
 ]
 
 -- the first lack of a context, whose seats and those inside it are given; in a context the rows are in listing order
-abbrev pub first_missing : List Seat → Context → Option Lack
+abbrev pub first_missing : List Seat → Context → Option ModelViolation
 first_missing seats context = missing_from seats context 0 terms
 
 -- ---- all that is missing in a context
 
 -- what is missing at the k-th row and those behind it, in their order
-abbrev pub all_missing_from : List Seat → Context → ℕ → List TermRow → List Lack
+abbrev pub all_missing_from : List Seat → Context → ℕ → List TermRow → List ModelViolation
 all_missing_from seats context k [] = []
 all_missing_from seats context k (row ∷ rows) = elim (missing_at seats context k row) [
   | Some name ↦ record { place = place k context; fault = faults.Missing name } ∷ all_missing_from seats context (k + 1) rows
@@ -133,5 +133,5 @@ all_missing_from seats context k (row ∷ rows) = elim (missing_at seats context
 ]
 
 -- all that a context lacks, whose seats and those inside it are given
-abbrev pub all_missing : List Seat → Context → List Lack
+abbrev pub all_missing : List Seat → Context → List ModelViolation
 all_missing seats context = all_missing_from seats context 0 terms

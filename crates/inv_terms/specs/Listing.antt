@@ -3,7 +3,7 @@ use Rattle.std.specs.Prelude.{◌≡◌, ℕ, ◌+◌, ◌-◌, Bool, true, ◌&
 use Rattle.std.specs.Prelude.{slice_get, option_map, if◌then◌else◌, All}
 use Rattle.std.specs.List.{list_all, list_any}
 use Rattle.term_table.specs.declared.groups.Group.{Group}
-use Rattle.term_table.specs.declared.terms.Letter.{Letter}
+use Rattle.term_table.specs.declared.terms.DataType.{DataType}
 use Rattle.term_table.specs.declared.terms.Term.{Term}
 use Rattle.term_table.specs.declared.contexts.Slot.{Slot}
 use Rattle.term_table.specs.declared.contexts.Context.{Context}
@@ -27,10 +27,10 @@ seat_of e = record { term = e.term; context = e.context }
 
 -- The value is one that some string has by a type of the term.
 pub record Fits (term : Term) (value : Value) : Type 0 where
-  pub letter : Letter
+  pub data_type : DataType
   pub text : List ℕ
-  pub typed : HasType term letter
-  pub read : value_of letter text ≡ Some value
+  pub typed : HasType term data_type
+  pub read : value_of data_type text ≡ Some value
 
 -- ---- listing order
 

@@ -6,9 +6,9 @@ use Rattle.term_table.specs.declared.contexts.Context.{Context}
 use Rattle.term_table.specs.Contexts.{is_inside}
 use Rattle.inv_terms.specs.declared.entries.Entry.{Entry}
 use Rattle.inv_terms.specs.Listing.{seat_of}
-use Rattle.inv_terms.specs.declared.lacks.Lack.{Lack}
+use Rattle.inv_terms.specs.declared.violations.ModelViolation.{ModelViolation}
 use Rattle.inv_terms.specs.Lacking.{first_missing}
 
 -- the first lack of a context that begins with these entries
-abbrev pub opened_missing : List Entry → Context → Option Lack
+abbrev pub opened_missing : List Entry → Context → Option ModelViolation
 opened_missing es context = first_missing (map seat_of (take_while (λ (e : Entry). is_inside context e.context) es)) context

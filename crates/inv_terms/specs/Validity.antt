@@ -13,13 +13,13 @@ use Rattle.inv_terms.specs.declared.values.Value.{Value}
 use Rattle.inv_terms.specs.declared.values.Value.TheVariants as values
 use Rattle.inv_terms.specs.declared.entries.Entry.{Entry}
 use Rattle.inv_terms.specs.Listing.{seat_of}
-use Rattle.inv_terms.specs.declared.lacks.TermFault.{TermFault}
-use Rattle.inv_terms.specs.declared.lacks.TermFault.TheVariants as faults
-use Rattle.inv_terms.specs.declared.lacks.Lack.{Lack}
+use Rattle.inv_terms.specs.declared.violations.TermFault.{TermFault}
+use Rattle.inv_terms.specs.declared.violations.TermFault.TheVariants as faults
+use Rattle.inv_terms.specs.declared.violations.ModelViolation.{ModelViolation}
 use Rattle.inv_terms.specs.Lacking.{first_missing}
 
 -- the first lack of a context of an invoice
-abbrev pub missing_in : List Entry → Context → Option Lack
+abbrev pub missing_in : List Entry → Context → Option ModelViolation
 missing_in es context = first_missing (map seat_of (filter (λ (e : Entry). is_inside context e.context) es)) context
 
 -- ---- the contexts of an invoice
@@ -69,7 +69,7 @@ abbrev pub is_unlisted : Lists → Entry → Bool
 is_unlisted lists e = is_outside lists (list_of e.term e.context) (code_in e.value)
 
 -- the lack of an entry, whose code isn't listed
-abbrev pub unlisted : Lists → Entry → Option Lack
+abbrev pub unlisted : Lists → Entry → Option ModelViolation
 unlisted lists e =
     if is_unlisted lists e
     then option_map (λ place. record { place = place; fault = faults.CodeNotListed e.term }) (place_of e.term e.context)
@@ -77,15 +77,15 @@ unlisted lists e =
 
 -- ---- the first lack
 
-abbrev pub earlier : Option Lack → Option Lack → Option Lack
+abbrev pub earlier : Option ModelViolation → Option ModelViolation → Option ModelViolation
 earlier None b = b
 earlier (Some a) None = Some a
 earlier (Some a) (Some b) = if precedes b.place a.place then Some b else Some a
 
 -- the lack with the first place
-abbrev pub first_lack : List Entry → Lists → Option Lack
-first_lack es lists = fold earlier None (map (missing_in es) (contexts es) ++ map (unlisted lists) es)
+abbrev pub first_violation : List Entry → Lists → Option ModelViolation
+first_violation es lists = fold earlier None (map (missing_in es) (contexts es) ++ map (unlisted lists) es)
 
-abbrev pub answer_of : Option Lack → Result (Unit {0}) TermFault
+abbrev pub answer_of : Option ModelViolation → Result (Unit {0}) TermFault
 answer_of None = Ok tt
-answer_of (Some lack) = Err lack.fault
+answer_of (Some violation) = Err violation.fault

@@ -9,8 +9,8 @@ use Rattle.std.specs.Ordering.{int_cmp, is_eq}
 use Rattle.inv_decimal.specs.CivilDay.{day_cmp}
 use Rattle.inv_decimal.specs.WrittenNumber.{read_scaled, scaled_text}
 use Rattle.inv_decimal.specs.WrittenDay.{read_dashed_day, dashed_day_text}
-use Rattle.term_table.specs.declared.terms.Letter.{Letter}
-use Rattle.term_table.specs.declared.terms.Letter.TheVariants as letters
+use Rattle.term_table.specs.declared.terms.DataType.{DataType}
+use Rattle.term_table.specs.declared.terms.DataType.TheVariants as data_types
 use Rattle.inv_terms.specs.declared.values.Value.{Value}
 use Rattle.inv_terms.specs.declared.values.Value.TheVariants as values
 
@@ -47,19 +47,19 @@ abbrev pub code_of : List ℕ → Option (List ℕ)
 code_of text = if is_code (trimmed text) then Some (trimmed text) else None
 
 -- the value by the type
-abbrev pub value_by : Letter → List ℕ → Option Value
-value_by letters.T text = option_map values.Text (text_of text)
-value_by letters.I text = option_map values.Identifier (identifier_of text)
-value_by letters.C text = option_map values.Code (code_of text)
-value_by letters.A text = option_map values.Amount (read_scaled (trimmed text))
-value_by letters.Q text = option_map values.Quantity (read_scaled (trimmed text))
-value_by letters.P text = option_map values.Percent (read_scaled (trimmed text))
-value_by letters.D text = option_map values.Date (read_dashed_day (trimmed text))
-value_by letters.B text = option_map values.Base64 (text_of text)
+abbrev pub value_by : DataType → List ℕ → Option Value
+value_by data_types.T text = option_map values.Text (text_of text)
+value_by data_types.I text = option_map values.Identifier (identifier_of text)
+value_by data_types.C text = option_map values.Code (code_of text)
+value_by data_types.A text = option_map values.Amount (read_scaled (trimmed text))
+value_by data_types.Q text = option_map values.Quantity (read_scaled (trimmed text))
+value_by data_types.P text = option_map values.Percent (read_scaled (trimmed text))
+value_by data_types.D text = option_map values.Date (read_dashed_day (trimmed text))
+value_by data_types.B text = option_map values.Base64 (text_of text)
 
 -- The value of a string: a string with a character that XML 1.0 doesn't have, has none.
-unfoldable pub value_of : Letter → List ℕ → Option Value
-value_of letter text = if list_all is_char text then value_by letter text else None
+unfoldable pub value_of : DataType → List ℕ → Option Value
+value_of data_type text = if list_all is_char text then value_by data_type text else None
 
 -- ---- values spelled and compared
 

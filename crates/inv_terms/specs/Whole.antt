@@ -19,9 +19,9 @@ use Rattle.term_table.specs.Places.{place}
 use Rattle.inv_terms.specs.declared.values.Value.TheVariants as values
 use Rattle.inv_terms.specs.declared.entries.Entry.{Entry}
 use Rattle.inv_terms.specs.Listing.{seat_of}
-use Rattle.inv_terms.specs.declared.lacks.Name.{Name}
-use Rattle.inv_terms.specs.declared.lacks.TermFault.TheVariants as faults
-use Rattle.inv_terms.specs.declared.lacks.Lack.{Lack}
+use Rattle.inv_terms.specs.declared.violations.Name.{Name}
+use Rattle.inv_terms.specs.declared.violations.TermFault.TheVariants as faults
+use Rattle.inv_terms.specs.declared.violations.ModelViolation.{ModelViolation}
 use Rattle.inv_terms.specs.Lacking.{is_around, shows_its_group, whole_term, is_slot_in, missing_at}
 use Rattle.inv_terms.specs.Validity.{list_of, unlisted}
 
@@ -99,7 +99,7 @@ abbrev pub seats_in : List Entry → Context → List Seat
 seats_in es c = map seat_of (filter (λ (e : Entry). is_inside c e.context) es)
 
 -- Something is missing at a row of a context, or an entry's code isn't in its list.
-pub record IsMissing (es : List Entry) (lack : Lack) : Type 0 where
+pub record IsMissing (es : List Entry) (violation : ModelViolation) : Type 0 where
   pub context : Context
   pub is_context : IsContextOf es context
   pub number : ℕ
@@ -107,7 +107,7 @@ pub record IsMissing (es : List Entry) (lack : Lack) : Type 0 where
   pub is_row : slice_get terms number ≡ Some row
   pub name : Name
   pub missing : missing_at (seats_in es context) context number row ≡ Some name
-  pub lack_is : lack ≡ record { place = place number context; fault = faults.Missing name }
+  pub violation_is : violation ≡ record { place = place number context; fault = faults.Missing name }
 
-abbrev pub IsLack : List Entry → Lists → Lack → Type 0
-IsLack es lists lack = IsMissing es lack ⊎ ((e : Entry) × Contains es e × (unlisted lists e ≡ Some lack))
+abbrev pub IsViolation : List Entry → Lists → ModelViolation → Type 0
+IsViolation es lists violation = IsMissing es violation ⊎ ((e : Entry) × Contains es e × (unlisted lists e ≡ Some violation))

@@ -1,7 +1,7 @@
 //! Laws of invoices. Each call does nothing: what it ensures is the law.
 
 ghost use Rattle.std.specs.Prelude.{◌≡◌, ◌↔◌, ℕ, List, [], ◌∷◌, ◌++◌, Some, None, true, map, Contains};
-ghost use Rattle.term_table.specs.declared.terms.Letter.{Letter};
+ghost use Rattle.term_table.specs.declared.terms.DataType.{DataType};
 ghost use Rattle.term_table.specs.Runs.{IsInOrder};
 ghost use Rattle.inv_terms.specs.declared.entries.Entry.{Entry};
 ghost use Rattle.inv_terms.specs.declared.values.Value.{Value};
@@ -33,8 +33,8 @@ pub fn invoices_with_the_same_entries_are_equal()
 
 /// What a value is written as is read as that value.
 pub fn spelled_values_are_read_back()
-    ensures { (letter : Letter) (text : List ℕ) (value : Value)
-        → value_of letter text ≡ Some value → value_of letter (spelled value) ≡ Some value }
+    ensures { (data_type : DataType) (text : List ℕ) (value : Value)
+        → value_of data_type text ≡ Some value → value_of data_type (spelled value) ≡ Some value }
 {
     printed_numbers_are_read();
     printed_days_are_read();

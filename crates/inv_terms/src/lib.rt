@@ -6,8 +6,6 @@ mod attachments;
 mod counts;
 mod entries;
 mod invoice;
-mod lack_laws;
-mod lacks;
 mod laws;
 mod listing;
 mod looking;
@@ -16,16 +14,13 @@ mod presence;
 mod spaces;
 mod validity;
 mod values;
+mod violation_laws;
+mod violations;
 
 pub use attachments::{AttachFault, attachment};
 pub use counts::Counts;
 pub use entries::Entry;
 pub use invoice::{Invoice, PushFault};
-pub use lack_laws::{
-    contexts_are_those_of_the_entries, first_lacks_are_first, first_missing_is_first_of_all,
-    valid_invoices_lack_nothing,
-};
-pub use lacks::{Lack, Name, TermFault};
 pub use laws::{
     invoices_are_in_listing_order, invoices_with_the_same_entries_are_equal,
     push_refuses_what_makes_no_invoice, spelled_values_are_read_back,
@@ -35,6 +30,11 @@ pub use looking::value_in;
 pub use missing::{all_missing, first_missing};
 pub use presence::Presence;
 pub use spaces::{is_blank, trimmed};
-pub use term_table::{Context, Group, Letter, Mark, Slot, Term, TermRow, term_row};
+pub use term_table::{Context, DataType, Group, Mark, Slot, Term, TermRow, term_row};
 pub use validity::{check, is_outside, is_unlisted};
 pub use values::Value;
+pub use violation_laws::{
+    contexts_are_those_of_the_entries, first_lacks_are_first, first_missing_is_first_of_all,
+    valid_invoices_lack_nothing,
+};
+pub use violations::{ModelViolation, Name, TermFault};

@@ -6,8 +6,8 @@ ghost use Rattle.inv_terms.specs.Lacking as spec;
 ghost use Rattle.inv_terms.specs.Presences.{AreKnown};
 ghost use Rattle.inv_terms.specs.LineRows as rows_of;
 
-use crate::lacks::{Lack, Name, TermFault};
 use crate::presence::Presence;
+use crate::violations::{ModelViolation, Name, TermFault};
 use std::alloc::{AllocError, Global};
 use std::marker::Model;
 use term_table::{
@@ -238,12 +238,12 @@ fn missing_among<T: Seated>(
     rows: &[TermRow],
     standing: &Standing<'_, T>,
     context: Context,
-) -> Option<Lack>
+) -> Option<ModelViolation>
     ensures { result ≡ spec.missing_from standing.now context 0 rows.now }
 {
     'rows: for (k, row) in rows.iter().enumerate() {
         if let Some(name) = missing_at(standing, context, k, row) {
-            return Some(Lack {
+            return Some(ModelViolation {
                 place: place_at(k, context),
                 fault: TermFault::Missing(name),
             });
@@ -254,7 +254,7 @@ fn missing_among<T: Seated>(
 
 /// The first term or group that is missing in a context, of which the seats are given that stand in it and inside it.
 /// It goes over them once for each term that may stand in the context.
-pub fn first_missing<T: Seated>(seats: &[T], context: Context) -> Option<Lack>
+pub fn first_missing<T: Seated>(seats: &[T], context: Context) -> Option<ModelViolation>
     ensures { result ≡ spec.first_missing (map T.seat_of seats.now) context }
 {
     missing_among(term_rows(), &standing_of(seats), context)
@@ -284,20 +284,20 @@ fn all_missing_among<T: Seated>(
     standing: &Standing<'_, T>,
     context: Context,
     first: usize,
-) -> Result<Vec<Lack>, AllocError>
+) -> Result<Vec<ModelViolation>, AllocError>
     requires { first + length rows.now < 2 ^ 64 }
-    ensures { IfOk result (λ lacks. lacks.items ≡ spec.all_missing_from standing.now context first rows.now) }
+    ensures { IfOk result (λ violations. violations.items ≡ spec.all_missing_from standing.now context first rows.now) }
 {
-    let mut lacks = Vec::new(alloc);
+    let mut violations = Vec::new(alloc);
     'rows: for (k, row) in rows.iter().enumerate() {
         if let Some(name) = missing_at(standing, context, first + k, row) {
-            lacks.push(Lack {
+            violations.push(ModelViolation {
                 place: place_at(first + k, context),
                 fault: TermFault::Missing(name),
             })?;
         }
     }
-    Ok(lacks)
+    Ok(violations)
 }
 
 /// All terms and groups that are missing in a context, in listing order, of which the seats are given that stand in it and
@@ -306,8 +306,8 @@ pub fn all_missing<T: Seated>(
     alloc: Global,
     seats: &[T],
     context: Context,
-) -> Result<Vec<Lack>, AllocError>
-    ensures { IfOk result (λ lacks. lacks.items ≡ spec.all_missing (map T.seat_of seats.now) context) }
+) -> Result<Vec<ModelViolation>, AllocError>
+    ensures { IfOk result (λ violations. violations.items ≡ spec.all_missing (map T.seat_of seats.now) context) }
 {
     let first = first_row_in(context);
     let (_, rows) = term_rows().split_at(first);

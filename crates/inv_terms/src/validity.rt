@@ -6,14 +6,14 @@ ghost use Rattle.inv_terms.specs.Lacking.{first_missing};
 ghost use Rattle.inv_terms.specs.Opened.{opened_missing};
 ghost use Rattle.inv_terms.specs.Validity as spec;
 
-use crate::lacks::{Lack, TermFault};
 use crate::missing::first_missing;
+use crate::violations::{ModelViolation, TermFault};
 use crate::{Entry, Invoice, Value};
 use code_lists::{CodeLists, List};
 use term_table::{Context, ROOT, Term, list_in, place_of};
 
 // The earlier of two lacks.
-fn earlier(first: Option<Lack>, other: Option<Lack>) -> Option<Lack>
+fn earlier(first: Option<ModelViolation>, other: Option<ModelViolation>) -> Option<ModelViolation>
     ensures { result ≡ spec.earlier first other }
 {
     match (first, other) {
@@ -45,7 +45,7 @@ fn front_of(entries: &[Entry], context: Context) -> &[Entry]
     &entries[..front_len(entries, context)]
 }
 
-fn missing_in_front(rest: &[Entry], context: Context) -> Option<Lack>
+fn missing_in_front(rest: &[Entry], context: Context) -> Option<ModelViolation>
     ensures { result ≡ first_missing (map seat_of (take_while (λ e. is_inside context e.context) rest.now)) context }
 {
     first_missing(front_of(rest, context), context)
@@ -68,8 +68,8 @@ fn with_outer(
     rest: &[Entry],
     before: Context,
     context: Context,
-    first: Option<Lack>,
-) -> Option<Lack>
+    first: Option<ModelViolation>,
+) -> Option<ModelViolation>
     ensures { result ≡ fold spec.earlier first (map (opened_missing rest.now) (if spec.opens_outer before context then outer_context context ∷ [] else [])) }
 {
     if opens_outer(before, context) {
@@ -83,8 +83,8 @@ fn with_inner(
     rest: &[Entry],
     before: Context,
     context: Context,
-    first: Option<Lack>,
-) -> Option<Lack>
+    first: Option<ModelViolation>,
+) -> Option<ModelViolation>
     ensures { result ≡ fold spec.earlier first (map (opened_missing rest.now) (if spec.opens_inner before context then context ∷ [] else [])) }
 {
     if opens_inner(before, context) {
@@ -95,7 +95,7 @@ fn with_inner(
 }
 
 // The first lack of all contexts.
-fn earliest_missing(entries: &[Entry]) -> Option<Lack>
+fn earliest_missing(entries: &[Entry]) -> Option<ModelViolation>
     requires { IsInvoice entries.now }
     ensures { result ≡ fold spec.earlier None (map (spec.missing_in entries.now) (spec.contexts entries.now)) }
 {
@@ -144,14 +144,14 @@ pub fn is_unlisted(lists: &CodeLists, e: &Entry) -> bool
 }
 
 // The lack of an entry, whose code isn't in its list.
-fn unlisted(lists: &CodeLists, e: &Entry) -> Option<Lack>
+fn unlisted(lists: &CodeLists, e: &Entry) -> Option<ModelViolation>
     ensures { result ≡ spec.unlisted lists.now e.now }
 {
     if !is_unlisted(lists, e) {
         return None;
     }
     match place_of(e.term, e.context) {
-        Some(place) => Some(Lack {
+        Some(place) => Some(ModelViolation {
             place,
             fault: TermFault::CodeNotListed(e.term),
         }),
@@ -160,7 +160,11 @@ fn unlisted(lists: &CodeLists, e: &Entry) -> Option<Lack>
 }
 
 // The first lack so far and those of the entries' codes.
-fn with_unlisted(entries: &[Entry], lists: &CodeLists, so_far: Option<Lack>) -> Option<Lack>
+fn with_unlisted(
+    entries: &[Entry],
+    lists: &CodeLists,
+    so_far: Option<ModelViolation>,
+) -> Option<ModelViolation>
     ensures { result ≡ fold spec.earlier so_far (map (spec.unlisted lists.now) entries.now) }
 {
     let mut first = so_far;
@@ -173,11 +177,11 @@ fn with_unlisted(entries: &[Entry], lists: &CodeLists, so_far: Option<Lack>) -> 
 /// The first lack of an invoice in listing order: a term or a group that is mandatory and isn't there, or a code that
 /// isn't in its list. Takes time in proportion to the invoice.
 pub fn check(i: &Invoice, lists: &CodeLists) -> Result<(), TermFault>
-    ensures { result ≡ spec.answer_of (spec.first_lack i.now lists.now) }
+    ensures { result ≡ spec.answer_of (spec.first_violation i.now lists.now) }
 {
     let entries = i.entries();
     match with_unlisted(entries, lists, earliest_missing(entries)) {
         None => Ok(()),
-        Some(lack) => Err(lack.fault),
+        Some(violation) => Err(violation.fault),
     }
 }

@@ -14,7 +14,7 @@ use inv_decimal::laws::printed_texts_are_ascii;
 use inv_decimal::{Day, Scaled};
 use std::alloc::{AllocError, Global};
 use std::cmp::Ordering;
-use term_table::Letter;
+use term_table::DataType;
 
 /// The value of a business term. A number keeps how many digits it was written with behind the point.
 #[derive(Drop)]
@@ -38,13 +38,13 @@ impl Value {
     /// of the others the white space at both ends is dropped. A date is read in its form with dashes. A string with a
     /// character that XML 1.0 doesn't have, has no value.
     #[tactic(auto, unfolding(crate::specs::Values::value_of))]
-    pub fn read(alloc: Global, letter: Letter, text: &str) -> Result<Option<Value>, AllocError>
-        ensures { IfOk result (λ value. value ≡ spec.value_of letter (chars text.now)) }
+    pub fn read(alloc: Global, data_type: DataType, text: &str) -> Result<Option<Value>, AllocError>
+        ensures { IfOk result (λ value. value ≡ spec.value_of data_type (chars text.now)) }
     {
         if !has_chars_alone(text) {
             return Ok(None);
         }
-        value_by(alloc, letter, text)
+        value_by(alloc, data_type, text)
     }
 
     /// How the value is written: a text as it is, a number with the digits that it keeps, a day `YYYY-MM-DD`. The
@@ -122,18 +122,18 @@ fn is_same_number(a: &Scaled, b: &Scaled) -> bool
 }
 
 // The value of a string of characters that XML 1.0 has.
-fn value_by(alloc: Global, letter: Letter, text: &str) -> Result<Option<Value>, AllocError>
-    ensures { IfOk result (λ value. value ≡ spec.value_by letter (chars text.now)) }
+fn value_by(alloc: Global, data_type: DataType, text: &str) -> Result<Option<Value>, AllocError>
+    ensures { IfOk result (λ value. value ≡ spec.value_by data_type (chars text.now)) }
 {
-    match letter {
-        Letter::T => Ok(text_of(alloc, text)?.map(Value::Text)),
-        Letter::I => Ok(identifier_of(alloc, text)?.map(Value::Identifier)),
-        Letter::C => Ok(code_of(alloc, text)?.map(Value::Code)),
-        Letter::A => Ok(Scaled::read(trimmed(text)).map(Value::Amount)),
-        Letter::Q => Ok(Scaled::read(trimmed(text)).map(Value::Quantity)),
-        Letter::P => Ok(Scaled::read(trimmed(text)).map(Value::Percent)),
-        Letter::D => Ok(Day::read_dashed(trimmed(text)).map(Value::Date)),
-        Letter::B => Ok(text_of(alloc, text)?.map(Value::Base64)),
+    match data_type {
+        DataType::T => Ok(text_of(alloc, text)?.map(Value::Text)),
+        DataType::I => Ok(identifier_of(alloc, text)?.map(Value::Identifier)),
+        DataType::C => Ok(code_of(alloc, text)?.map(Value::Code)),
+        DataType::A => Ok(Scaled::read(trimmed(text)).map(Value::Amount)),
+        DataType::Q => Ok(Scaled::read(trimmed(text)).map(Value::Quantity)),
+        DataType::P => Ok(Scaled::read(trimmed(text)).map(Value::Percent)),
+        DataType::D => Ok(Day::read_dashed(trimmed(text)).map(Value::Date)),
+        DataType::B => Ok(text_of(alloc, text)?.map(Value::Base64)),
     }
 }
 

@@ -5,16 +5,16 @@ use Rattle.inv_base.specs.Files.{Files}
 use Rattle.inv_base.specs.Outside.{ShelfView, SinkView, WhereTold, appended}
 use Rattle.inv_base.specs.Writing.{IsFront, WritesAll, WritesFront}
 use Rattle.inv_base.proofs.WritingLemmas.{appended-nil, WritesAll-nil, IsFront-nil, IsFront-whole}
-use Rattle.job_course.specs.declared.status.Status.{Status}
-use Rattle.job_course.specs.declared.status.Status.TheVariants as statuses
-use Rattle.job_course.specs.Course.{Answer, Course, ends, done, refusal, answer_of, readings}
-use Rattle.job_course.specs.Lines.{bad_word_line, read_fault_line}
-use Rattle.job_course.specs.Outside.{Outside, IsRefusal, IsAccepted, IsRefusedAnswer, TakesOrFails, HasRead, counted}
-use Rattle.job_course.specs.Runs.{EndsIn, at_end, ReadsAt, IsRefused, IsUnread, IsOutOfMemory, IsCut, IsWritten, Runs, RunsInPieces}
-use Rattle.job_course.proofs.Ends.{ends_as_answered, ends_behind_readings, reads_within}
+use Rattle.job_protocol.specs.declared.status.Status.{Status}
+use Rattle.job_protocol.specs.declared.status.Status.TheVariants as statuses
+use Rattle.job_protocol.specs.Protocol.{Answer, Protocol, ends, done, refusal, answer_of, readings}
+use Rattle.job_protocol.specs.Lines.{bad_word_line, read_fault_line}
+use Rattle.job_protocol.specs.Outside.{Outside, IsRefusal, IsAccepted, IsRefusedAnswer, TakesOrFails, HasRead, counted}
+use Rattle.job_protocol.specs.Runs.{EndsIn, at_end, ReadsAt, IsRefused, IsUnread, IsOutOfMemory, IsCut, IsWritten, Runs, RunsInPieces}
+use Rattle.job_protocol.proofs.Ends.{ends_as_answered, ends_behind_readings, reads_within}
 use Rattle.trial_run.specs.Trials.{trial_of, trial_text}
 use Rattle.invoice_cli.specs.Job.{Job, outline, show, totals, convert, check, validate, extract, query, trial, help, version, bad_word}
-use Rattle.invoice_cli.specs.Answer.{course_of, answer_to}
+use Rattle.invoice_cli.specs.Answer.{protocol_of, answer_to}
 use Rattle.invoice_cli.specs.declared.words.Asked.{Asked}
 use Rattle.invoice_cli.specs.declared.words.Command.{Command}
 use Rattle.invoice_cli.specs.Commands.{named_files, asked_by, asked}
@@ -38,7 +38,7 @@ whole_line line a b (inr front) quiet = absurd (not_quiet a.faults b.faults fron
 pub asked_is : {wanted : Job} (all : Asked) {command : Command} → asked all ≡ wanted → all.command ≡ command → asked_by (named_files all.rules) command ≡ wanted
 asked_is all is same = sym (ap (asked_by (named_files all.rules)) same) ∙ is
 
--- A course ends in one way at once.
+-- A protocol ends in one way at once.
 same_end : (a b : Answer) → ends a ≡ ends b → a ≡ b
 same_end a b e = cc
 
@@ -80,13 +80,13 @@ answers_bad_word steps number shelf out err err' takes = record {
 
 -- a text that is the answer whatever is held
 pub answers_said : (steps : ℕ) (job : Job) (text : List ℕ) (status : Status) (shelf : ShelfView) (out out' err : SinkView)
-    → course_of steps job ≡ ends (done text)
+    → protocol_of steps job ≡ ends (done text)
     → ((number : ℕ) → job ≡ bad_word number → ⊥) → ((file : List ℕ) → job ≡ outline file → ⊥) → Says status text out out'
     → Answers steps job (record { shelf = shelf; out = out; err = err }) (record { shelf = shelf; out = out'; err = err }) status
 answers_said steps job text status shelf out out' err is_end good no_document (inl said) =
     let all = said.1 in
-    let is_text : (files : Files) → answer_to steps job files ≡ done text = λ files. ap (λ course. answer_of course files) is_end in
-    let unread : (files : Files) → readings (course_of steps job) files ≡ 0 = λ files. ap (λ course. readings course files) is_end in
+    let is_text : (files : Files) → answer_to steps job files ≡ done text = λ files. ap (λ protocol. answer_of protocol files) is_end in
+    let unread : (files : Files) → readings (protocol_of steps job) files ≡ 0 = λ files. ap (λ protocol. readings protocol files) is_end in
     let before : Outside = record { shelf = shelf; out = out; err = err } in
     let after : Outside = record { shelf = shelf; out = out'; err = err } in
     rw said.0 (record {
@@ -96,7 +96,7 @@ answers_said steps job text status shelf out out' err is_end good no_document (i
       written = λ _. record {
         count = 0;
         answer = done text;
-        ends_in = subst (λ course. EndsIn shelf.held course 0 (done text)) (sym is_end) at_end;
+        ends_in = subst (λ protocol. EndsIn shelf.held protocol 0 (done text)) (sym is_end) at_end;
         status_is =
             refl;
         all = all;
@@ -125,8 +125,8 @@ answers_said steps job text status shelf out out' err is_end good no_document (i
     })
 answers_said steps job text status shelf out out' err is_end good no_document (inr said) =
     let front = said.1 in
-    let is_text : (files : Files) → answer_to steps job files ≡ done text = λ files. ap (λ course. answer_of course files) is_end in
-    let unread : (files : Files) → readings (course_of steps job) files ≡ 0 = λ files. ap (λ course. readings course files) is_end in
+    let is_text : (files : Files) → answer_to steps job files ≡ done text = λ files. ap (λ protocol. answer_of protocol files) is_end in
+    let unread : (files : Files) → readings (protocol_of steps job) files ≡ 0 = λ files. ap (λ protocol. readings protocol files) is_end in
     let good_text : (files : Files) → IsAccepted (answer_to steps job files).status =
     λ files. subst (λ (a : Answer). IsAccepted a.status) (sym (is_text files)) tt in
     let before : Outside = record { shelf = shelf; out = out; err = err } in
@@ -161,7 +161,7 @@ answers_said steps job text status shelf out out' err is_end good no_document (i
 
 -- memory that ran out before anything was read or written
 pub answers_spent : (steps : ℕ) (job : Job) (status : Status) (shelf : ShelfView) (out out' err : SinkView) → WantsMemory job
-    → ((files : Files) → readings (course_of steps job) files ≡ 0)
+    → ((files : Files) → readings (protocol_of steps job) files ≡ 0)
     → ((number : ℕ) → job ≡ bad_word number → ⊥) → ((file : List ℕ) → job ≡ outline file → ⊥) → (status ≡ statuses.Memory) × (out' ≡ out)
     → Answers steps job (record { shelf = shelf; out = out; err = err }) (record { shelf = shelf; out = out'; err = err }) status
 answers_spent steps job status shelf out out' err wants unread good no_document spent =
@@ -238,18 +238,18 @@ refused_not_accepted statuses.ReadFault refuses good = good
 refused_not_accepted statuses.WriteFault refuses good = good
 refused_not_accepted statuses.Memory refuses good = good
 
--- A course that is an end ends with that answer, and reads nothing.
+-- A protocol that is an end ends with that answer, and reads nothing.
 end_is : (held : Option Files) (a b : Answer) (n : ℕ) → EndsIn held (ends a) n b → (n ≡ 0) × (b ≡ a)
 end_is held a b n at_end = (refl, refl)
 
-ended_at_once : (held : Option Files) (course : Course) (a : Answer) (n : ℕ) (b : Answer) → course ≡ ends a → EndsIn held course n b → (n ≡ 0) × (b ≡ a)
-ended_at_once held course a n b is ended = end_is held a b n (subst (λ c. EndsIn held c n b) is ended)
+ended_at_once : (held : Option Files) (protocol : Protocol) (a : Answer) (n : ℕ) (b : Answer) → protocol ≡ ends a → EndsIn held protocol n b → (n ≡ 0) × (b ≡ a)
+ended_at_once held protocol a n b is ended = end_is held a b n (subst (λ c. EndsIn held c n b) is ended)
 
 end_reads : (held : Option Files) (a : Answer) (n : ℕ) (file : List ℕ) → ReadsAt held (ends a) n file → ⊥
 end_reads held a n file reads = elim reads [ ]
 
-none_read : (held : Option Files) (course : Course) (a : Answer) (n : ℕ) (file : List ℕ) → course ≡ ends a → ReadsAt held course n file → ⊥
-none_read held course a n file is reads = end_reads held a n file (subst (λ c. ReadsAt held c n file) is reads)
+none_read : (held : Option Files) (protocol : Protocol) (a : Answer) (n : ℕ) (file : List ℕ) → protocol ≡ ends a → ReadsAt held protocol n file → ⊥
+none_read held protocol a n file is reads = end_reads held a n file (subst (λ c. ReadsAt held c n file) is reads)
 
 -- Files want memory.
 files_want : (job : Job) → NamesFiles job → WantsMemory job
@@ -270,20 +270,20 @@ module _ (steps : ℕ) (job : Job) (names : NamesFiles job) (before after : Outs
   named : (number : ℕ) → job ≡ bad_word number → ⊥
   named number is = subst NamesFiles is names
 
-  told_end : (files : Files) (n : ℕ) (a : Answer) → before.shelf.held ≡ Some files → EndsIn before.shelf.held (course_of steps job) n a →
-      EndsIn (Some files) (course_of steps job) n a
-  told_end files n a is fits = subst (λ held. EndsIn held (course_of steps job) n a) is fits
+  told_end : (files : Files) (n : ℕ) (a : Answer) → before.shelf.held ≡ Some files → EndsIn before.shelf.held (protocol_of steps job) n a →
+      EndsIn (Some files) (protocol_of steps job) n a
+  told_end files n a is fits = subst (λ held. EndsIn held (protocol_of steps job) n a) is fits
 
-  answer_is : (files : Files) (n : ℕ) (a : Answer) → before.shelf.held ≡ Some files → EndsIn before.shelf.held (course_of steps job) n a →
+  answer_is : (files : Files) (n : ℕ) (a : Answer) → before.shelf.held ≡ Some files → EndsIn before.shelf.held (protocol_of steps job) n a →
       a ≡ answer_to steps job files
-  answer_is files n a is fits = ends_as_answered files (course_of steps job) n a (told_end files n a is fits)
+  answer_is files n a is fits = ends_as_answered files (protocol_of steps job) n a (told_end files n a is fits)
 
-  counts : (files : Files) (n : ℕ) (a : Answer) → before.shelf.held ≡ Some files → EndsIn before.shelf.held (course_of steps job) n a →
-      n ≡ readings (course_of steps job) files
-  counts files n a is fits = ends_behind_readings files (course_of steps job) n a (told_end files n a is fits)
+  counts : (files : Files) (n : ℕ) (a : Answer) → before.shelf.held ≡ Some files → EndsIn before.shelf.held (protocol_of steps job) n a →
+      n ≡ readings (protocol_of steps job) files
+  counts files n a is fits = ends_behind_readings files (protocol_of steps job) n a (told_end files n a is fits)
 
   refused : (status : Status) → ((file : List ℕ) → job ≡ outline file → after.shelf.opens ≡ next_count before.shelf.opens) →
-      IsRefused (course_of steps job) before after status
+      IsRefused (protocol_of steps job) before after status
       → Answers steps job before after status
   refused status one r = record {
     answered = λ _ _ files is _. sym r.told ∙ ap (λ (a : Answer). a.status) (answer_is files r.count r.answer is r.ends_in);
@@ -293,7 +293,7 @@ module _ (steps : ℕ) (job : Job) (names : NamesFiles job) (before after : Outs
         ∙ ap (λ (a : Answer). appended a.err before.err.told) (answer_is files r.count r.answer is r.ends_in);
     written = λ good. absurd (refused_not_accepted status r.refuses good);
     at_once = λ a is refuses _.
-        let end = ended_at_once before.shelf.held (course_of steps job) a r.count r.answer is r.ends_in in
+        let end = ended_at_once before.shelf.held (protocol_of steps job) a r.count r.answer is r.ends_in in
         record {
           status_is = sym r.told ∙ ap (λ (x : Answer). x.status) end.1;
           read = subst (λ n. HasRead n before.shelf after.shelf) end.0 r.read;
@@ -328,14 +328,14 @@ module _ (steps : ℕ) (job : Job) (names : NamesFiles job) (before after : Outs
   }
 
   unread : (status : Status) → ((file : List ℕ) → job ≡ outline file → after.shelf.opens ≡ next_count before.shelf.opens) →
-      IsUnread (course_of steps job) before after status
+      IsUnread (protocol_of steps job) before after status
       → Answers steps job before after status
   unread status one r = rw r.told (record {
     answered = λ quiet _ files is _. absurd (not_quiet before.shelf.faults after.shelf.faults r.rose quiet);
     output = λ quiet _ files is _. absurd (not_quiet before.shelf.faults after.shelf.faults r.rose quiet);
     errors = λ quiet _ _ files is _. absurd (not_quiet before.shelf.faults after.shelf.faults r.rose quiet);
     written = λ good. absurd good;
-    at_once = λ a is refuses _. absurd (none_read before.shelf.held (course_of steps job) a r.count r.file is r.reads_at);
+    at_once = λ a is refuses _. absurd (none_read before.shelf.held (protocol_of steps job) a r.count r.file is r.reads_at);
     bad_words = λ e. cc;
     only_bad_words = λ number e. absurd (named number e);
     memory = λ e. files_want job names;
@@ -353,8 +353,8 @@ module _ (steps : ℕ) (job : Job) (names : NamesFiles job) (before after : Outs
     opens = (
       r.count,
       r.opens,
-      λ files is. reads_within files (course_of steps job) r.count r.file
-          (subst (λ held. ReadsAt held (course_of steps job) r.count r.file) is r.reads_at),
+      λ files is. reads_within files (protocol_of steps job) r.count r.file
+          (subst (λ held. ReadsAt held (protocol_of steps job) r.count r.file) is r.reads_at),
     );
     all_opened = λ quiet _ files is. absurd (not_quiet before.shelf.faults after.shelf.faults r.rose quiet);
     outline_opens = one;
@@ -364,7 +364,7 @@ module _ (steps : ℕ) (job : Job) (names : NamesFiles job) (before after : Outs
   })
 
   out_of_memory : (status : Status) → ((file : List ℕ) → job ≡ outline file → after.shelf.opens ≡ next_count before.shelf.opens)
-      → IsOutOfMemory (course_of steps job) before after status → Answers steps job before after status
+      → IsOutOfMemory (protocol_of steps job) before after status → Answers steps job before after status
   out_of_memory status one r = rw r.told (record {
     answered = λ _ no files is _. absurd (no refl);
     output = λ _ no files is _. absurd (no refl);
@@ -394,7 +394,7 @@ module _ (steps : ℕ) (job : Job) (names : NamesFiles job) (before after : Outs
   })
 
   cut_short : (status : Status) → WritesInPieces job → ((file : List ℕ) → job ≡ outline file → after.shelf.opens ≡ next_count before.shelf.opens)
-      → IsCut (course_of steps job) before after status → Answers steps job before after status
+      → IsCut (protocol_of steps job) before after status → Answers steps job before after status
   cut_short status pieces one r = rw r.told (record {
     answered = λ _ no files is _. absurd (no refl);
     output = λ _ no files is _. absurd (no refl);
@@ -437,7 +437,7 @@ module _ (steps : ℕ) (job : Job) (names : NamesFiles job) (before after : Outs
   accepted_is statuses.Memory good = absurd good
 
   module _ (one : (file : List ℕ) → job ≡ outline file → after.shelf.opens ≡ next_count before.shelf.opens) (status : Status)
-      (r : IsWritten (course_of steps job) before after status) where
+      (r : IsWritten (protocol_of steps job) before after status) where
     answer_here : (files : Files) → before.shelf.held ≡ Some files → r.answer ≡ answer_to steps job files
     answer_here files is = answer_is files r.count r.answer is r.ends_in
 
@@ -456,7 +456,7 @@ module _ (steps : ℕ) (job : Job) (names : NamesFiles job) (before after : Outs
               ∙ ap (λ text. appended text before.err.told) (sym r.silent ∙ ap (λ (a : Answer). a.err) (answer_here files is)));
           written = λ _. record { count = r.count; answer = r.answer; ends_in = r.ends_in; status_is = done.0; all = all };
           at_once = λ a is refuses _.
-              let end = ended_at_once before.shelf.held (course_of steps job) a r.count r.answer is r.ends_in in
+              let end = ended_at_once before.shelf.held (protocol_of steps job) a r.count r.answer is r.ends_in in
               absurd (refused_not_accepted a.status refuses (subst (λ (x : Answer). IsAccepted x.status) end.1 r.accepted));
           bad_words = λ e. absurd (other.1 e);
           only_bad_words = λ number e. absurd (named number e);
@@ -493,7 +493,7 @@ module _ (steps : ℕ) (job : Job) (names : NamesFiles job) (before after : Outs
           errors = λ _ _ _ files is quiet. absurd (not_quiet before.out.faults after.out.faults front.rose (quiet (accepted_here files is)));
           written = λ good. absurd good;
           at_once = λ a is refuses _.
-              let end = ended_at_once before.shelf.held (course_of steps job) a r.count r.answer is r.ends_in in
+              let end = ended_at_once before.shelf.held (protocol_of steps job) a r.count r.answer is r.ends_in in
               absurd (refused_not_accepted a.status refuses (subst (λ (x : Answer). IsAccepted x.status) end.1 r.accepted));
           bad_words = λ e. cc;
           only_bad_words = λ number e. absurd (named number e);
@@ -523,9 +523,9 @@ module _ (steps : ℕ) (job : Job) (names : NamesFiles job) (before after : Outs
     written (inl done) = whole done
     written (inr done) = cut done
 
-  -- A job that names files runs by its course: then all of the contract holds.
+  -- A job that names files runs by its protocol: then all of the contract holds.
   pub answers_of_run : (status : Status) → ((file : List ℕ) → job ≡ outline file → after.shelf.opens ≡ next_count before.shelf.opens)
-      → Runs (course_of steps job) before after status → Answers steps job before after status
+      → Runs (protocol_of steps job) before after status → Answers steps job before after status
   answers_of_run status one (inl r) = refused status one r
   answers_of_run status one (inr (inl r)) = unread status one r
   answers_of_run status one (inr (inr (inl r))) = out_of_memory status one r
@@ -533,6 +533,6 @@ module _ (steps : ℕ) (job : Job) (names : NamesFiles job) (before after : Outs
 
   -- The same of a job that wants memory while it writes.
   pub answers_of_pieces : WritesInPieces job → (status : Status) → ((file : List ℕ) → job ≡ outline file → after.shelf.opens ≡ next_count before.shelf.opens)
-      → RunsInPieces (course_of steps job) before after status → Answers steps job before after status
+      → RunsInPieces (protocol_of steps job) before after status → Answers steps job before after status
   answers_of_pieces pieces status one (inl runs) = answers_of_run status one runs
   answers_of_pieces pieces status one (inr some) = cut_short status pieces one some

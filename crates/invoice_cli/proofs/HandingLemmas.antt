@@ -1,17 +1,17 @@
 -- How a command ends, in front of the output and behind handing on.
 use Rattle.std.proofs.Common.{◌≡◌, ℕ, List, inl, inr, refl, sym, subst}
 use Rattle.inv_base.specs.Outside.{ShelfView, SinkView}
-use Rattle.job_course.specs.declared.status.Status.{Status}
-use Rattle.job_course.specs.declared.status.Status.TheVariants as statuses
-use Rattle.job_course.specs.Outside.{Outside, IsAccepted}
-use Rattle.job_course.specs.Runs.{Runs}
+use Rattle.job_protocol.specs.declared.status.Status.{Status}
+use Rattle.job_protocol.specs.declared.status.Status.TheVariants as statuses
+use Rattle.job_protocol.specs.Outside.{Outside, IsAccepted}
+use Rattle.job_protocol.specs.Runs.{Runs}
 use Rattle.held_output.specs.Origins.{HandedOver}
 use Rattle.held_output.proofs.HoldingLemmas.{unchanged}
-use Rattle.held_output.proofs.Courses.{failed_all, front_kept, run_handed, pieces_handed}
+use Rattle.held_output.proofs.Protocols.{failed_all, front_kept, run_handed, pieces_handed}
 use Rattle.trial_run.specs.Trials.{trial_of, trial_text}
 use Rattle.invoice_cli.specs.declared.usage.TheConstants.{HELP}
 use Rattle.invoice_cli.specs.Job.{Job, outline, show, totals, convert, check, validate, extract, query, trial, help, version, bad_word}
-use Rattle.invoice_cli.specs.Answer.{version_text, course_of}
+use Rattle.invoice_cli.specs.Answer.{version_text, protocol_of}
 use Rattle.invoice_cli.specs.Answers.{Says, Tries, Answers}
 use Rattle.invoice_cli.specs.Endings.{LeavesOthers, Ends}
 use Rattle.invoice_cli.proofs.AnswersLemmas.{answers_said, answers_tried, answers_bad_word, answers_of_run, answers_of_pieces}
@@ -47,8 +47,8 @@ module _ (start shown now : SinkView) (status status' : Status) where
     abbrev Now : Outside
     Now = record { shelf = shelf'; out = now; err = err' }
 
-    runs : (steps : ℕ) (job : Job) → Runs (course_of steps job) Before Shown status → Runs (course_of steps job) Before Now status'
-    runs steps job = run_handed (course_of steps job) shelf shelf' start shown now err err' status status' handed
+    runs : (steps : ℕ) (job : Job) → Runs (protocol_of steps job) Before Shown status → Runs (protocol_of steps job) Before Now status'
+    runs steps job = run_handed (protocol_of steps job) shelf shelf' start shown now err err' status status' handed
 
     others : LeavesOthers Before Shown → LeavesOthers Before Now
     others leaves = record { shelf = leaves.shelf; err = leaves.err }
@@ -63,7 +63,7 @@ module _ (start shown now : SinkView) (status status' : Status) where
     ends_handed steps (validate svrl sources file) ends = (tt, runs steps (validate svrl sources file) ends.1)
     ends_handed steps (extract number file) ends = (tt, runs steps (extract number file) ends.1)
     ends_handed steps (query expression file) ends =
-        pieces_handed (course_of steps (query expression file)) shelf shelf' start shown now err err' status status' handed ends
+        pieces_handed (protocol_of steps (query expression file)) shelf shelf' start shown now err err' status status' handed ends
     ends_handed steps (trial lines) ends = (others ends.0, tries_handed (trial_text (trial_of lines steps)) handed ends.1)
     ends_handed steps help ends = (others ends.0, says_handed HELP.now handed ends.1)
     ends_handed steps version ends = (others ends.0, says_handed version_text handed ends.1)

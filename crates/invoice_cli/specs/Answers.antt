@@ -5,14 +5,14 @@ use Rattle.inv_base.specs.Counts.{Rose, Quiet, next_count}
 use Rattle.inv_base.specs.Files.{Files}
 use Rattle.inv_base.specs.Outside.{SinkView, WhereTold, appended}
 use Rattle.inv_base.specs.Writing.{IsFront, WritesAll, WritesFront}
-use Rattle.job_course.specs.declared.status.Status.{Status}
-use Rattle.job_course.specs.declared.status.Status.TheVariants as statuses
-use Rattle.job_course.specs.Course.{Answer, ends, readings}
-use Rattle.job_course.specs.Lines.{bad_word_line, read_fault_line}
-use Rattle.job_course.specs.Outside.{Outside, IsRefusal, IsAccepted, IsRefusedAnswer, TakesOrFails, HasRead, counted}
-use Rattle.job_course.specs.Runs.{EndsIn, ReadsAt, StopsAtFault}
+use Rattle.job_protocol.specs.declared.status.Status.{Status}
+use Rattle.job_protocol.specs.declared.status.Status.TheVariants as statuses
+use Rattle.job_protocol.specs.Protocol.{Answer, ends, readings}
+use Rattle.job_protocol.specs.Lines.{bad_word_line, read_fault_line}
+use Rattle.job_protocol.specs.Outside.{Outside, IsRefusal, IsAccepted, IsRefusedAnswer, TakesOrFails, HasRead, counted}
+use Rattle.job_protocol.specs.Runs.{EndsIn, ReadsAt, StopsAtFault}
 use Rattle.invoice_cli.specs.Job.{Job, outline, query, trial, help, version, bad_word}
-use Rattle.invoice_cli.specs.Answer.{course_of, answer_to}
+use Rattle.invoice_cli.specs.Answer.{protocol_of, answer_to}
 
 -- The words name files.
 abbrev pub NamesFiles : Job → Type 0
@@ -36,7 +36,7 @@ WritesInPieces _ = ⊥
 pub record IsRefusalLine (steps : ℕ) (job : Job) (status : Status) (held : Option Files) (line : List ℕ) : Type 0 where
   pub count : ℕ
   pub answer : Answer
-  pub ends_in : EndsIn held (course_of steps job) count answer
+  pub ends_in : EndsIn held (protocol_of steps job) count answer
   pub status_is : answer.status ≡ status
   pub line_is : line ≡ answer.err
 
@@ -45,7 +45,7 @@ pub record IsRefusalLine (steps : ℕ) (job : Job) (status : Status) (held : Opt
 pub record IsReadFaultLine (steps : ℕ) (job : Job) (held : Option Files) (opens opens' : ℕ) (line : List ℕ) : Type 0 where
   pub count : ℕ
   pub file : List ℕ
-  pub reads_at : ReadsAt held (course_of steps job) count file
+  pub reads_at : ReadsAt held (protocol_of steps job) count file
   pub opened : opens' ≡ counted count opens
   pub line_is : line ≡ read_fault_line file
 
@@ -75,7 +75,7 @@ QuietIfWritten answer before after = IsAccepted answer.status → Quiet before.o
 pub record IsWhole (steps : ℕ) (job : Job) (before after : Outside) (status : Status) : Type 0 where
   pub count : ℕ
   pub answer : Answer
-  pub ends_in : EndsIn before.shelf.held (course_of steps job) count answer
+  pub ends_in : EndsIn before.shelf.held (protocol_of steps job) count answer
   pub status_is : status ≡ answer.status
   pub all : WritesAll answer.out before.out after.out
 
@@ -102,7 +102,7 @@ pub record Answers (steps : ℕ) (job : Job) (before after : Outside) (status : 
   -- Done and Findings come only with the whole of an answer, also where the shelf tells no files.
   pub written : IsAccepted status → IsWhole steps job before after status
   -- An expression that is refused is told before any file is opened, whatever the shelf is and its counts are.
-  pub at_once : (answer : Answer) → course_of steps job ≡ ends answer → IsRefusedAnswer answer.status → status ≢ statuses.Memory →
+  pub at_once : (answer : Answer) → protocol_of steps job ≡ ends answer → IsRefusedAnswer answer.status → status ≢ statuses.Memory →
       IsRefusedAtOnce answer before after status
   -- Bad words are told exactly where the words name no job.
   pub bad_words : status ≡ statuses.BadWords → (number : ℕ) × (job ≡ bad_word number)
@@ -127,12 +127,12 @@ pub record Answers (steps : ℕ) (job : Job) (before after : Outside) (status : 
   pub front : (IsRefusal status → ⊥) → AppendsFront steps job before after
   -- Behind bytes of a refused document that settle no fault yet, and behind the limit of a file that is too long, at most one piece was read: the
   -- rest is left.
-  pub stops : IsRefusedAnswer status → StopsAtFault (course_of steps job) before.shelf.held after.shelf.left
+  pub stops : IsRefusedAnswer status → StopsAtFault (protocol_of steps job) before.shelf.held after.shelf.left
   -- No file is opened that the job doesn't read, each is opened once, and all are where nothing fails and memory is found.
   pub opens : (count : ℕ) × (after.shelf.opens ≡ counted count before.shelf.opens) ×
-      WhereTold before.shelf.held (λ files. count ≤ readings (course_of steps job) files)
+      WhereTold before.shelf.held (λ files. count ≤ readings (protocol_of steps job) files)
   pub all_opened : Quiet before.shelf.faults after.shelf.faults → status ≢ statuses.Memory
-      → WhereTold before.shelf.held (λ files. after.shelf.opens ≡ counted (readings (course_of steps job) files) before.shelf.opens)
+      → WhereTold before.shelf.held (λ files. after.shelf.opens ≡ counted (readings (protocol_of steps job) files) before.shelf.opens)
   -- The outline opens its document's file in any case.
   pub outline_opens : (file : List ℕ) → job ≡ outline file → after.shelf.opens ≡ next_count before.shelf.opens
   -- Words that name no files are answered whatever the shelf is. They leave it alone, and the files stay as they are.

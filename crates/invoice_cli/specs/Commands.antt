@@ -1,7 +1,7 @@
 -- A command of the program's, as the words' job.
 use Rattle.std.specs.Prelude.{List, ℕ, take, Some, None, option_map, Result, Ok, Err}
 use Rattle.std.specs.Borrow.{Bor}
-use Rattle.job_course.specs.Views.{text_of, texts_of}
+use Rattle.job_protocol.specs.Views.{text_of, texts_of}
 use Rattle.invoice_jobs.specs.Sources.{sources_of}
 use Rattle.invoice_cli.specs.Job.{Job, outline, show, totals, convert, check, validate, extract, query, trial, help, version, bad_word, Options, words_of}
 use Rattle.invoice_cli.specs.declared.words.Asked.{Asked}

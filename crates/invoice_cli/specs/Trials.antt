@@ -7,7 +7,7 @@ use Rattle.trial_invoice.specs.Amounts.{sum_of_nets}
 use Rattle.trial_invoice.specs.Generated.{amount}
 use Rattle.trial_run.specs.declared.trial.Trial.{Trial}
 use Rattle.trial_run.specs.Trials.{trial_of, trial_text}
-use Rattle.job_course.specs.Course.{done}
+use Rattle.job_protocol.specs.Protocol.{done}
 use Rattle.invoice_cli.specs.Job.{most_lines, trial}
 use Rattle.invoice_cli.specs.Answer.{answer_to}
 

@@ -11,5 +11,5 @@ mod version;
 mod words;
 
 pub use adapters::{FileShelf, OutputSink};
-pub use job_course::Status;
+pub use job_protocol::Status;
 pub use program::run;

@@ -3,7 +3,7 @@ ghost use Rattle.std.specs.Prelude.{◌≡◌, ◌<◌, ◌+◌, ◌++◌, ◌�
 ghost use Rattle.invoice_cli.specs.Job as spec;
 ghost use Rattle.invoice_cli.specs.Job.{Job, Options, words_of};
 ghost use Rattle.invoice_cli.specs.declared.options.Switch.TheVariants as switches;
-ghost use Rattle.job_course.specs.Views.{texts_of};
+ghost use Rattle.job_protocol.specs.Views.{texts_of};
 ghost use Rattle.invoice_cli.specs.Commands.{named_files, given_options, followed};
 
 use bind_meaning::Syntax;

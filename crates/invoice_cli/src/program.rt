@@ -14,7 +14,7 @@ use document_jobs::{Checking, check, outline, query};
 use held_output::{HeldOutput, Lent, Origin, hand_over};
 use inv_base::{Shelf, Sink, write_all};
 use invoice_jobs::{convert, extract, show, totals};
-use job_course::{Status, tell_bad_word};
+use job_protocol::{Status, tell_bad_word};
 use std::alloc::Global;
 use std::marker::Brand;
 use validation_jobs::validate;

@@ -6,7 +6,7 @@ ghost use Rattle.invoice_cli.specs.Answers.{Tries};
 ghost use Rattle.invoice_cli.specs.Trials.{TrialsKeepTerms};
 
 use inv_base::{Sink, Steps};
-use job_course::Status;
+use job_protocol::Status;
 use std::alloc::Global;
 use std::marker::Brand;
 use std::sync::ledger::{Blank, Ledger};

@@ -5,7 +5,7 @@ ghost use Rattle.invoice_cli.specs.Answers.{Says};
 
 use crate::usage::VERSION;
 use inv_base::{Failed, Sink, write_all};
-use job_course::Status;
+use job_protocol::Status;
 use rule_texts::RULES_VERSION;
 
 /// Writes the version of the program, and which rules are built in.

@@ -10,7 +10,7 @@ use Rattle.node_arena.specs.Moves.{tree_nodes}
 use Rattle.extension_files.specs.declared.terms.ExtTerm.{ExtTerm}
 use Rattle.extension_files.specs.ExtensionFiles.{file_terms}
 use Rattle.bind_rows.specs.declared.rows.Row.{Row}
-use Rattle.bind_rows.specs.declared.tables.Which.{Which}
+use Rattle.bind_rows.specs.declared.tables.DocumentType.{DocumentType}
 use Rattle.bind_meaning.specs.Terms.{Read}
 use Rattle.bind_meaning.specs.declared.fault.BindFault.{BindFault}
 use Rattle.bind_meaning.specs.declared.tables.Syntax.{Syntax}
@@ -20,13 +20,13 @@ use Rattle.bind_run.specs.Extensions.{rows_for, judged, AreGood}
 use Rattle.bind_run.specs.Reading.{invoice_by}
 use Rattle.written_laws.specs.Texts.{exactly}
 use Rattle.extension_laws.specs.Texts.{AreOpen, AreReadBy, IsCarriedIn, target_rows, text_by, tree_by}
-use Rattle.job_course.specs.declared.status.Status.TheVariants as statuses
-use Rattle.job_course.specs.Course.{Answer, Course, done, refusal, answer_of, readings, is_within, list_limit, document_limits}
-use Rattle.job_course.specs.Runs.{EndsIn}
-use Rattle.job_course.specs.Views.{document_read}
+use Rattle.job_protocol.specs.declared.status.Status.TheVariants as statuses
+use Rattle.job_protocol.specs.Protocol.{Answer, Protocol, done, refusal, answer_of, readings, is_within, list_limit, document_limits}
+use Rattle.job_protocol.specs.Runs.{EndsIn}
+use Rattle.job_protocol.specs.Views.{document_read}
 use Rattle.invoice_jobs.proofs.EndLemmas.{end_is_answer, document_done, lists_done, terms_done, answer_ends}
-use Rattle.invoice_jobs.specs.Sources.{Sources, Basis, extended_course}
-use Rattle.invoice_jobs.specs.Invoices.{invoice_line, condition_line, by_invoice, invoice_course, by_carrying, converted, convert_course}
+use Rattle.invoice_jobs.specs.Sources.{Sources, ReadingProfile, extended_protocol}
+use Rattle.invoice_jobs.specs.Invoices.{invoice_line, condition_line, by_invoice, invoice_protocol, by_carrying, converted, convert_protocol}
 use Rattle.invoice_jobs.specs.Conversions.{AreLists, built_in, of_file, AreTerms, none, of_a_file, AreReadAs, IsCarriedBy, text_of_invoice, IsDocumentText}
 use Rattle.invoice_jobs.specs.Conversions.{IsConverted, AreAccepted, AreAddedOrNone, IsConvertedThere}
 
@@ -42,13 +42,13 @@ carrying-done held text (Err fault) n a ended good =
     absurd (let z : statuses.Unable ≡ statuses.Done = sym refused ∙ good in cc)
 
 -- It was read.
-record IsInvoiceDone (held : Option Files) (found : Result Read BindFault) (next : Read → Course) (a : Answer) : Type 0 where
+record IsInvoiceDone (held : Option Files) (found : Result Read BindFault) (next : Read → Protocol) (a : Answer) : Type 0 where
   pub read : Read
   pub is : found ≡ Ok read
   pub count : ℕ
   pub ends_in : EndsIn held (next read) count a
 
-invoice-done : (held : Option Files) (file : List ℕ) (found : profile.Document) (next : Read → Course) (invoice : Result Read BindFault) (n : ℕ) (a : Answer)
+invoice-done : (held : Option Files) (file : List ℕ) (found : profile.Document) (next : Read → Protocol) (invoice : Result Read BindFault) (n : ℕ) (a : Answer)
     → EndsIn held (by_invoice file (document_read found) next invoice) n a → a.status ≡ statuses.Done → IsInvoiceDone held invoice next a
 invoice-done held file found next (Ok read) n a ended good = record { read = read; is = refl; count = n; ends_in = ended }
 invoice-done held file found next (Err fault) n a ended good =
@@ -57,84 +57,92 @@ invoice-done held file found next (Err fault) n a ended good =
     absurd (let z : statuses.DocumentRefused ≡ statuses.Done = sym refused ∙ good in cc)
 
 -- What is read and carried is written as a document, and that is read as it.
-pub text-of : ((bytes : List ℕ) (basis : Basis) (read : Read) → AreGood basis.terms → AreReadAs bytes basis read → IsInvoice read.entries × IsValid
-    read.entries basis.lists)
+pub text-of : ((bytes : List ℕ) (reading_profile : ReadingProfile) (read : Read) → AreGood reading_profile.terms → AreReadAs bytes reading_profile read
+    → IsInvoice read.entries × IsValid
+    read.entries reading_profile.lists)
     → ((terms : List ExtTerm) → AreGood terms → AreOpen (rows_for terms))
-    → ((tables : Which → List Row) (syntax : Syntax) (es : List Entry) (lists : Lists) → AreOpen tables → IsInvoice es → IsValid es lists → IsCarriedIn tables
+    → ((tables : DocumentType → List Row) (syntax : Syntax) (es : List Entry) (lists : Lists) → AreOpen tables → IsInvoice es → IsValid es lists
+        → IsCarriedIn tables
     syntax es
     → profile.IsXml document_limits (text_by tables syntax es) (tree_by tables syntax es))
-    → ((tables : Which → List Row) (syntax : Syntax) (es : List Entry) (lists : Lists) → AreOpen tables → IsInvoice es → IsValid es lists → IsCarriedIn tables
+    → ((tables : DocumentType → List Row) (syntax : Syntax) (es : List Entry) (lists : Lists) → AreOpen tables → IsInvoice es → IsValid es lists
+        → IsCarriedIn tables
     syntax es
     → AreReadBy tables (text_by tables syntax es) lists (exactly es))
-    → (bytes : List ℕ) (basis : Basis) (read : Read) (syntax : Syntax) → AreGood basis.terms → AreReadAs bytes basis read
-    → IsCarriedBy syntax basis read.entries
-    → IsDocumentText syntax basis read.entries
-text-of valid opened xml round bytes basis read syntax good is by =
-    let v = valid bytes basis read good is in
-    let each = opened basis.terms good in
+    → (bytes : List ℕ) (reading_profile : ReadingProfile) (read : Read) (syntax : Syntax) → AreGood reading_profile.terms → AreReadAs bytes reading_profile read
+    → IsCarriedBy syntax reading_profile read.entries
+    → IsDocumentText syntax reading_profile read.entries
+text-of valid opened xml round bytes reading_profile read syntax good is by =
+    let v = valid bytes reading_profile read good is in
+    let each = opened reading_profile.terms good in
     record {
-      tree = xml (rows_for basis.terms) syntax read.entries basis.lists each v.0 v.1 by;
-      read = round (rows_for basis.terms) syntax read.entries basis.lists each v.0 v.1 by;
+      tree = xml (rows_for reading_profile.terms) syntax read.entries reading_profile.lists each v.0 v.1 by;
+      read = round (rows_for reading_profile.terms) syntax read.entries reading_profile.lists each v.0 v.1 by;
     }
 
 module _
-    (texts : (bytes : List ℕ) (basis : Basis) (read : Read) (syntax : Syntax) → AreGood basis.terms → AreReadAs bytes basis read → IsCarriedBy syntax basis
+    (texts : (bytes : List ℕ) (reading_profile : ReadingProfile) (read : Read) (syntax : Syntax) → AreGood reading_profile.terms
+        → AreReadAs bytes reading_profile read → IsCarriedBy syntax reading_profile
     read.entries
-    → IsDocumentText syntax basis read.entries)
+    → IsDocumentText syntax reading_profile read.entries)
     (no_terms : AreGood [])
     (terms_good : (bytes : List ℕ) (terms : List ExtTerm) → file_terms bytes ≡ Ok terms → judged (rows_for terms) ≡ Ok tt → AreGood terms)
   where
-    by-basis : (held : Option Files) (syntax : Syntax) (sources : Sources) (file : List ℕ) (basis : Basis) (n : ℕ) (a : Answer)
-        → AreAccepted held sources.codes_file basis.lists
-        → AreAddedOrNone held sources.extension_file basis.terms → AreGood basis.terms
-        → EndsIn held (invoice_course file basis (λ read. converted syntax (record { basis = basis; read = read }))) n a → a.status ≡ statuses.Done
+    by-reading_profile : (held : Option Files) (syntax : Syntax) (sources : Sources) (file : List ℕ) (reading_profile : ReadingProfile) (n : ℕ) (a : Answer)
+        → AreAccepted held sources.codes_file reading_profile.lists
+        → AreAddedOrNone held sources.extension_file reading_profile.terms → AreGood reading_profile.terms
+        → EndsIn held (invoice_protocol file reading_profile (λ read. converted syntax (record { reading_profile = reading_profile; read = read }))) n a
+            → a.status ≡ statuses.Done
         → IsConvertedThere held syntax sources file a
-    by-basis held syntax sources file basis n a accepted added terms_are ended good =
-        let next : Read → Course = λ read. converted syntax (record { basis = basis; read = read }) in
+    by-reading_profile held syntax sources file reading_profile n a accepted added terms_are ended good =
+        let next : Read → Protocol = λ read. converted syntax (record { reading_profile = reading_profile; read = read }) in
         let d = document_done held file (λ found. by_invoice file (document_read found) next
-        (invoice_by (rows_for basis.terms) (tree_nodes (document_read found)) basis.lists)) n a ended good in
-        let i = invoice-done held file d.found next (invoice_by (rows_for basis.terms) (tree_nodes (document_read d.found)) basis.lists) d.count a d.ends_in
+        (invoice_by (rows_for reading_profile.terms) (tree_nodes (document_read found)) reading_profile.lists)) n a ended good in
+        let i = invoice-done held file d.found next (invoice_by (rows_for reading_profile.terms) (tree_nodes (document_read d.found)) reading_profile.lists)
+            d.count a d.ends_in
         good in
-        let c = carrying-done held (text_of_invoice syntax basis i.read.entries)
-        (carrying (target_rows (rows_for basis.terms) syntax i.read.entries) i.read.entries) i.count a i.ends_in good in
-        let is : AreReadAs d.content basis i.read = record { found = d.found; is = d.is; invoice = i.is } in
+        let c = carrying-done held (text_of_invoice syntax reading_profile i.read.entries)
+        (carrying (target_rows (rows_for reading_profile.terms) syntax i.read.entries) i.read.entries) i.count a i.ends_in good in
+        let is : AreReadAs d.content reading_profile i.read = record { found = d.found; is = d.is; invoice = i.is } in
         record {
-          basis = basis;
+          reading_profile = reading_profile;
           lists_are = accepted;
           terms_are = added;
           content = d.content;
           of_file = d.of_file;
           read = i.read;
           read_as = is;
-          gives = record { carried = c.0; answer_is = c.1; text = texts d.content basis i.read syntax terms_are is c.0 };
+          gives = record { carried = c.0; answer_is = c.1; text = texts d.content reading_profile i.read syntax terms_are is c.0 };
         }
 
     by-lists : (held : Option Files) (syntax : Syntax) (codes_file extension_file : Option (List ℕ)) (file : List ℕ) (lists : Lists) (n : ℕ) (a : Answer)
         → AreAccepted held codes_file lists
-        → EndsIn held (extended_course extension_file (λ terms. invoice_course file (record { lists = lists; terms = terms })
-        (λ read. converted syntax (record { basis = record { lists = lists; terms = terms }; read = read })))) n a
+        → EndsIn held (extended_protocol extension_file (λ terms. invoice_protocol file (record { lists = lists; terms = terms })
+        (λ read. converted syntax (record { reading_profile = record { lists = lists; terms = terms }; read = read })))) n a
         → a.status ≡ statuses.Done → IsConvertedThere held syntax (record { codes_file = codes_file; extension_file = extension_file }) file a
     by-lists held syntax codes_file None file lists n a accepted ended good =
-        by-basis held syntax (record { codes_file = codes_file; extension_file = None }) file (record { lists = lists; terms = [] }) n a accepted refl no_terms
+        by-reading_profile held syntax (record { codes_file = codes_file; extension_file = None }) file (record { lists = lists; terms = [] }) n a accepted
+            refl no_terms
         ended good
     by-lists held syntax codes_file (Some name) file lists n a accepted ended good =
-        let t = terms_done held name (λ terms. invoice_course file (record { lists = lists; terms = terms })
-        (λ read. converted syntax (record { basis = record { lists = lists; terms = terms }; read = read }))) n a ended good in
-        by-basis held syntax (record { codes_file = codes_file; extension_file = Some name }) file (record { lists = lists; terms = t.terms }) t.count a
+        let t = terms_done held name (λ terms. invoice_protocol file (record { lists = lists; terms = terms })
+        (λ read. converted syntax (record { reading_profile = record { lists = lists; terms = terms }; read = read }))) n a ended good in
+        by-reading_profile held syntax (record { codes_file = codes_file; extension_file = Some name }) file (record { lists = lists; terms = t.terms })
+            t.count a
         accepted t.are
         (terms_good t.are.content t.terms t.are.are t.are.good) t.ends_in good
 
     by-files : (held : Option Files) (syntax : Syntax) (codes_file extension_file : Option (List ℕ)) (file : List ℕ) (n : ℕ) (a : Answer)
-        → EndsIn held (convert_course syntax (record { codes_file = codes_file; extension_file = extension_file }) file) n a → a.status ≡ statuses.Done
+        → EndsIn held (convert_protocol syntax (record { codes_file = codes_file; extension_file = extension_file }) file) n a → a.status ≡ statuses.Done
         → IsConvertedThere held syntax (record { codes_file = codes_file; extension_file = extension_file }) file a
     by-files held syntax None extension_file file n a ended good = by-lists held syntax None extension_file file built_in_lists n a refl ended good
     by-files held syntax (Some name) extension_file file n a ended good =
-        let l = lists_done held name (λ lists. extended_course extension_file (λ terms. invoice_course file (record { lists = lists; terms = terms })
-        (λ read. converted syntax (record { basis = record { lists = lists; terms = terms }; read = read })))) n a ended good in
+        let l = lists_done held name (λ lists. extended_protocol extension_file (λ terms. invoice_protocol file (record { lists = lists; terms = terms })
+        (λ read. converted syntax (record { reading_profile = record { lists = lists; terms = terms }; read = read })))) n a ended good in
         by-lists held syntax (Some name) extension_file file l.lists l.count a l.are l.ends_in good
 
     pub convert-ended : (held : Option Files) (syntax : Syntax) (sources : Sources) (file : List ℕ) (n : ℕ) (a : Answer)
-        → EndsIn held (convert_course syntax sources file) n a → a.status ≡ statuses.Done → IsConvertedThere held syntax sources file a
+        → EndsIn held (convert_protocol syntax sources file) n a → a.status ≡ statuses.Done → IsConvertedThere held syntax sources file a
     convert-ended held syntax sources file n a ended good = by-files held syntax sources.codes_file sources.extension_file file n a ended good
 
 -- ---- where the files are told
@@ -156,21 +164,21 @@ are-terms files (Some name) terms are =
 told : (files : Files) (syntax : Syntax) (sources : Sources) (file : List ℕ) (a : Answer) → IsConvertedThere (Some files) syntax sources file a
     → IsConverted files syntax sources file a
 told files syntax sources file a there = record {
-  basis = there.basis;
-  basis_is = record {
-    lists_are = are-lists files sources.codes_file there.basis.lists there.lists_are;
-    terms_are = are-terms files sources.extension_file there.basis.terms there.terms_are;
+  reading_profile = there.reading_profile;
+  profile_is = record {
+    lists_are = are-lists files sources.codes_file there.reading_profile.lists there.lists_are;
+    terms_are = are-terms files sources.extension_file there.reading_profile.terms there.terms_are;
   };
   read = there.read;
-  read_as = subst (λ bytes. AreReadAs bytes there.basis there.read) (there.of_file files refl) there.read_as;
+  read_as = subst (λ bytes. AreReadAs bytes there.reading_profile there.read) (there.of_file files refl) there.read_as;
   gives = there.gives;
 }
 
 pub convert-done : ((held : Option Files) (syntax : Syntax) (sources : Sources) (file : List ℕ) (n : ℕ) (a : Answer)
-    → EndsIn held (convert_course syntax sources file) n a → a.status ≡ statuses.Done → IsConvertedThere held syntax sources file a)
-    → (files : Files) (syntax : Syntax) (sources : Sources) (file : List ℕ) → (answer_of (convert_course syntax sources file) files).status ≡ statuses.Done
-    → IsConverted files syntax sources file (answer_of (convert_course syntax sources file) files)
+    → EndsIn held (convert_protocol syntax sources file) n a → a.status ≡ statuses.Done → IsConvertedThere held syntax sources file a)
+    → (files : Files) (syntax : Syntax) (sources : Sources) (file : List ℕ) → (answer_of (convert_protocol syntax sources file) files).status ≡ statuses.Done
+    → IsConverted files syntax sources file (answer_of (convert_protocol syntax sources file) files)
 convert-done ended files syntax sources file good =
-    let course = convert_course syntax sources file in
-    told files syntax sources file (answer_of course files) (ended (Some files) syntax sources file (readings course files) (answer_of course files)
-    (answer_ends files course) good)
+    let protocol = convert_protocol syntax sources file in
+    told files syntax sources file (answer_of protocol files) (ended (Some files) syntax sources file (readings protocol files) (answer_of protocol files)
+    (answer_ends files protocol) good)

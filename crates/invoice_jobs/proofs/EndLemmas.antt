@@ -1,4 +1,4 @@
--- Where a course ends in Done, what it read was accepted; and the answer to files is one with which it ends.
+-- Where a protocol ends in Done, what it read was accepted; and the answer to files is one with which it ends.
 use Rattle.std.proofs.Common.{◌≡◌, ℕ, suc, List, Option, Some, Result, Ok, Err, Bool, true, false, refl, ap, sym, ◌∙◌}
 use Rattle.inv_base.specs.Files.{Files, bytes_under}
 use Rattle.code_lists.specs.CodeFiles.{Lists, file_lists}
@@ -12,12 +12,12 @@ use Rattle.xml_state.specs.declared.fault.XmlFault.{XmlFault}
 use Rattle.xml_state.specs.declared.limits.Limits.{Limits}
 use Rattle.xml_profile.specs.Profile.{document}
 use Rattle.xml_profile.specs.Profile as profile
-use Rattle.job_course.specs.declared.status.Status.TheVariants as statuses
-use Rattle.job_course.specs.Course.{Answer, Course, ends, loads, takes, refusal, by_result, by_test, by_lists, is_within, document_limits, list_limit}
-use Rattle.job_course.specs.Course.{document_course, lists_course, answer_of, readings}
-use Rattle.job_course.specs.Lines.{document_line, list_line, too_long_line}
-use Rattle.job_course.specs.Runs.{IsContentOf, AreListed, EndsIn, at_end, refused_at, loaded, too_long_at, taken}
-use Rattle.invoice_jobs.specs.Sources.{extension_line, bad_row_line, by_good, by_terms, terms_course}
+use Rattle.job_protocol.specs.declared.status.Status.TheVariants as statuses
+use Rattle.job_protocol.specs.Protocol.{Answer, Protocol, ends, loads, takes, refusal, by_result, by_test, by_lists, is_within, document_limits, list_limit}
+use Rattle.job_protocol.specs.Protocol.{document_protocol, lists_protocol, answer_of, readings}
+use Rattle.job_protocol.specs.Lines.{document_line, list_line, too_long_line}
+use Rattle.job_protocol.specs.Runs.{IsContentOf, AreListed, EndsIn, at_end, refused_at, loaded, too_long_at, taken}
+use Rattle.invoice_jobs.specs.Sources.{extension_line, bad_row_line, by_good, by_terms, terms_protocol}
 use Rattle.invoice_jobs.specs.Conversions.{AreAdded}
 
 -- ---- where a job is done, what it read was accepted
@@ -26,7 +26,7 @@ pub end_is_answer : (held : Option Files) (answer a : Answer) (n : ℕ) → Ends
 end_is_answer held answer a n at_end = refl
 
 -- A document was had, and the rest ends with the answer.
-pub record HasLoaded (held : Option Files) (limits : Limits) (name : List ℕ) (next : profile.Document → Course) (a : Answer) : Type 0 where
+pub record HasLoaded (held : Option Files) (limits : Limits) (name : List ℕ) (next : profile.Document → Protocol) (a : Answer) : Type 0 where
   pub content : List ℕ
   pub of_file : IsContentOf held name content
   pub found : profile.Document
@@ -35,20 +35,20 @@ pub record HasLoaded (held : Option Files) (limits : Limits) (name : List ℕ) (
   pub ends_in : EndsIn held (next found) count a
 
 -- The lists of a file were had, and the rest ends with the answer.
-pub record HasTaken (held : Option Files) (name : List ℕ) (next : Lists → Course) (a : Answer) : Type 0 where
+pub record HasTaken (held : Option Files) (name : List ℕ) (next : Lists → Protocol) (a : Answer) : Type 0 where
   pub lists : Lists
   pub are : AreListed held name lists
   pub count : ℕ
   pub ends_in : EndsIn held (next lists) count a
 
 -- The terms of a file were had, and the rest ends with the answer.
-pub record HasAdded (held : Option Files) (name : List ℕ) (next : List ExtTerm → Course) (a : Answer) : Type 0 where
+pub record HasAdded (held : Option Files) (name : List ℕ) (next : List ExtTerm → Protocol) (a : Answer) : Type 0 where
   pub terms : List ExtTerm
   pub are : AreAdded held name terms
   pub count : ℕ
   pub ends_in : EndsIn held (next terms) count a
 
-load_done : (held : Option Files) (limits : Limits) (name : List ℕ) (refused : XmlFault → Answer) (next : profile.Document → Course) (n : ℕ) (a : Answer)
+load_done : (held : Option Files) (limits : Limits) (name : List ℕ) (refused : XmlFault → Answer) (next : profile.Document → Protocol) (n : ℕ) (a : Answer)
     → ((fault : XmlFault) → (refused fault).status ≡ statuses.Done → ⊥) → EndsIn held (loads limits name refused (λ bytes found. next found)) n a
     → a.status ≡ statuses.Done
     → HasLoaded held limits name next a
@@ -56,14 +56,15 @@ load_done held limits name refused next n a never (refused_at {fault} is fails) 
 load_done held limits name refused next n a never (loaded {content} {found} {n = m} is fits further) good =
     record { content = content; of_file = is; found = found; is = fits; count = m; ends_in = further }
 
-pub document_done : (held : Option Files) (name : List ℕ) (next : profile.Document → Course) (n : ℕ) (a : Answer) → EndsIn held (document_course name next) n a
+pub document_done : (held : Option Files) (name : List ℕ) (next : profile.Document → Protocol) (n : ℕ) (a : Answer)
+    → EndsIn held (document_protocol name next) n a
     → a.status ≡ statuses.Done
     → HasLoaded held document_limits name next a
 document_done held name next n a ended good =
     load_done held document_limits name (λ fault. refusal statuses.DocumentRefused (document_line name fault)) next n a
     (λ fault e. let z : statuses.DocumentRefused ≡ statuses.Done = e in cc) ended good
 
-lists_found : (held : Option Files) (name : List ℕ) (next : Lists → Course) (content : List ℕ) (found : Result Lists ListFault) (n : ℕ) (a : Answer)
+lists_found : (held : Option Files) (name : List ℕ) (next : Lists → Protocol) (content : List ℕ) (found : Result Lists ListFault) (n : ℕ) (a : Answer)
     → IsContentOf held name content → is_within list_limit content ≡ true
     → file_lists content ≡ found → EndsIn held (by_lists name next found) n a → a.status ≡ statuses.Done → HasTaken held name next a
 lists_found held name next content (Ok lists) n a is within are ended good =
@@ -72,21 +73,21 @@ lists_found held name next content (Err fault) n a is within are ended good =
     let refused = ap (λ (x : Answer). x.status) (end_is_answer held (refusal statuses.RulesRefused (list_line name fault)) a n ended) in
     absurd (let z : statuses.RulesRefused ≡ statuses.Done = sym refused ∙ good in cc)
 
-take_done : (held : Option Files) (limit : ℕ) (name : List ℕ) (too_long : Answer) (next : List ℕ → Course) (n : ℕ) (a : Answer)
+take_done : (held : Option Files) (limit : ℕ) (name : List ℕ) (too_long : Answer) (next : List ℕ → Protocol) (n : ℕ) (a : Answer)
     → (too_long.status ≡ statuses.Done → ⊥)
     → EndsIn held (takes limit name too_long next) n a → a.status ≡ statuses.Done
     → (content : List ℕ) × IsContentOf held name content × (is_within limit content ≡ true) × ((m : ℕ) × EndsIn held (next content) m a)
 take_done held limit name too_long next n a never (too_long_at is long) good = absurd (never good)
 take_done held limit name too_long next n a never (taken {content} {n = m} is within further) good = (content, is, within, (m, further))
 
-pub lists_done : (held : Option Files) (name : List ℕ) (next : Lists → Course) (n : ℕ) (a : Answer) → EndsIn held (lists_course name next) n a
+pub lists_done : (held : Option Files) (name : List ℕ) (next : Lists → Protocol) (n : ℕ) (a : Answer) → EndsIn held (lists_protocol name next) n a
     → a.status ≡ statuses.Done → HasTaken held name next a
 lists_done held name next n a ended good =
     let t = take_done held list_limit name (refusal statuses.RulesRefused (too_long_line name)) (λ bytes. by_lists name next (file_lists bytes)) n a
     (λ e. let z : statuses.RulesRefused ≡ statuses.Done = e in cc) ended good in
     lists_found held name next t.0 (file_lists t.0) t.3.0 a t.1 t.2 refl t.3.1 good
 
-module _ (held : Option Files) (name : List ℕ) (next : List ExtTerm → Course) (content : List ℕ) (n : ℕ) (a : Answer)
+module _ (held : Option Files) (name : List ℕ) (next : List ExtTerm → Protocol) (content : List ℕ) (n : ℕ) (a : Answer)
     (is : IsContentOf held name content) (within : is_within list_limit content ≡ true) (good : a.status ≡ statuses.Done) where
   -- a line was told
   not_done : {A : Type 0} → (line : List ℕ) → EndsIn held (ends (refusal statuses.RulesRefused line)) n a → A
@@ -105,7 +106,7 @@ module _ (held : Option Files) (name : List ℕ) (next : List ExtTerm → Course
   terms_found (Ok terms) are ended = good_found terms (judged (rows_for terms)) are refl ended
   terms_found (Err fault) are ended = not_done (extension_line name fault) ended
 
-pub terms_done : (held : Option Files) (name : List ℕ) (next : List ExtTerm → Course) (n : ℕ) (a : Answer) → EndsIn held (terms_course name next) n a
+pub terms_done : (held : Option Files) (name : List ℕ) (next : List ExtTerm → Protocol) (n : ℕ) (a : Answer) → EndsIn held (terms_protocol name next) n a
     → a.status ≡ statuses.Done
     → HasAdded held name next a
 terms_done held name next n a ended good =
@@ -118,7 +119,7 @@ terms_done held name next n a ended good =
 content_told : (files : Files) (name : List ℕ) → IsContentOf (Some files) name (bytes_under name files)
 content_told files name other is = let same : files ≡ other = cc in ap (bytes_under name) same
 
-pub answer_ends : (files : Files) (course : Course) → EndsIn (Some files) course (readings course files) (answer_of course files)
+pub answer_ends : (files : Files) (protocol : Protocol) → EndsIn (Some files) protocol (readings protocol files) (answer_of protocol files)
 answer_ends files (ends answer) = at_end
 answer_ends files (loads limits name refused next) = go (document limits (bytes_under name files))
     (λ found. answer_ends files (next (bytes_under name files) found)) refl

@@ -11,9 +11,9 @@ use Rattle.bind_meaning.specs.declared.tables.Syntax.{Syntax}
 use Rattle.bind_run.specs.Extensions.{rows_for, judged}
 use Rattle.written_laws.specs.Texts.{exactly}
 use Rattle.extension_laws.specs.Texts.{tree_by, text_by, IsCarriedIn, AreReadBy}
-use Rattle.job_course.specs.Course.{Answer, done, is_within, list_limit, document_limits}
-use Rattle.job_course.specs.Runs.{IsContentOf, AreListed}
-use Rattle.invoice_jobs.specs.Sources.{Sources, Basis}
+use Rattle.job_protocol.specs.Protocol.{Answer, done, is_within, list_limit, document_limits}
+use Rattle.job_protocol.specs.Runs.{IsContentOf, AreListed}
+use Rattle.invoice_jobs.specs.Sources.{Sources, ReadingProfile}
 
 -- ---- what the files beside a document give
 
@@ -29,50 +29,50 @@ pub data AreTerms (files : Files) : Option (List ℕ) → List ExtTerm → Type 
   of_a_file : (name : List ℕ) (terms : List ExtTerm) → is_within list_limit (bytes_under name files) ≡ true → file_terms (bytes_under name files) ≡ Ok terms
       → judged (rows_for terms) ≡ Ok tt → AreTerms files (Some name) terms
 
-pub record IsBasis (files : Files) (sources : Sources) (basis : Basis) : Type 0 where
-  pub lists_are : AreLists files sources.codes_file basis.lists
-  pub terms_are : AreTerms files sources.extension_file basis.terms
+pub record IsProfile (files : Files) (sources : Sources) (reading_profile : ReadingProfile) : Type 0 where
+  pub lists_are : AreLists files sources.codes_file reading_profile.lists
+  pub terms_are : AreTerms files sources.extension_file reading_profile.terms
 
 -- ---- what an invoice is written as, and what bytes are read as, by these
 
-abbrev pub text_of_invoice : Syntax → Basis → List Entry → List ℕ
-text_of_invoice syntax basis es = text_by (rows_for basis.terms) syntax es
+abbrev pub text_of_invoice : Syntax → ReadingProfile → List Entry → List ℕ
+text_of_invoice syntax reading_profile es = text_by (rows_for reading_profile.terms) syntax es
 
-abbrev pub IsCarriedBy : Syntax → Basis → List Entry → Type 0
-IsCarriedBy syntax basis es = IsCarriedIn (rows_for basis.terms) syntax es
+abbrev pub IsCarriedBy : Syntax → ReadingProfile → List Entry → Type 0
+IsCarriedBy syntax reading_profile es = IsCarriedIn (rows_for reading_profile.terms) syntax es
 
-abbrev pub AreReadAs : List ℕ → Basis → Read → Type 0
-AreReadAs bytes basis read = AreReadBy (rows_for basis.terms) bytes basis.lists read
+abbrev pub AreReadAs : List ℕ → ReadingProfile → Read → Type 0
+AreReadAs bytes reading_profile read = AreReadBy (rows_for reading_profile.terms) bytes reading_profile.lists read
 
 -- The file is read as this invoice.
-abbrev pub IsReadAs : Files → List ℕ → Basis → Read → Type 0
-IsReadAs files file basis read = AreReadAs (bytes_under file files) basis read
+abbrev pub IsReadAs : Files → List ℕ → ReadingProfile → Read → Type 0
+IsReadAs files file reading_profile read = AreReadAs (bytes_under file files) reading_profile read
 
 -- A file holds the text, and the files beside it give this.
-pub record Holds (files : Files) (file text : List ℕ) (sources : Sources) (basis : Basis) : Type 0 where
+pub record Holds (files : Files) (file text : List ℕ) (sources : Sources) (reading_profile : ReadingProfile) : Type 0 where
   pub same : bytes_under file files ≡ text
-  pub basis_is : IsBasis files sources basis
+  pub profile_is : IsProfile files sources reading_profile
 
 -- ---- what converting answers
 
 -- The text of the invoice in the syntax is XML of exactly the tree of its document there, and is read as exactly its entries, with nothing passed over.
-pub record IsDocumentText (syntax : Syntax) (basis : Basis) (es : List Entry) : Type 0 where
-  pub tree : IsXml document_limits (text_of_invoice syntax basis es) (tree_by (rows_for basis.terms) syntax es)
-  pub read : AreReadAs (text_of_invoice syntax basis es) basis (exactly es)
+pub record IsDocumentText (syntax : Syntax) (reading_profile : ReadingProfile) (es : List Entry) : Type 0 where
+  pub tree : IsXml document_limits (text_of_invoice syntax reading_profile es) (tree_by (rows_for reading_profile.terms) syntax es)
+  pub read : AreReadAs (text_of_invoice syntax reading_profile es) reading_profile (exactly es)
 
 -- The answer is the text of an invoice that was read, which the syntax carries.
-pub record IsConversion (syntax : Syntax) (basis : Basis) (read : Read) (answer : Answer) : Type 0 where
-  pub carried : IsCarriedBy syntax basis read.entries
-  pub answer_is : answer ≡ done (text_of_invoice syntax basis read.entries)
-  pub text : IsDocumentText syntax basis read.entries
+pub record IsConversion (syntax : Syntax) (reading_profile : ReadingProfile) (read : Read) (answer : Answer) : Type 0 where
+  pub carried : IsCarriedBy syntax reading_profile read.entries
+  pub answer_is : answer ≡ done (text_of_invoice syntax reading_profile read.entries)
+  pub text : IsDocumentText syntax reading_profile read.entries
 
 -- The files beside the document were accepted, it was read by them as an invoice, and the answer is its text.
 pub record IsConverted (files : Files) (syntax : Syntax) (sources : Sources) (file : List ℕ) (answer : Answer) : Type 0 where
-  pub basis : Basis
-  pub basis_is : IsBasis files sources basis
+  pub reading_profile : ReadingProfile
+  pub profile_is : IsProfile files sources reading_profile
   pub read : Read
-  pub read_as : IsReadAs files file basis read
-  pub gives : IsConversion syntax basis read answer
+  pub read_as : IsReadAs files file reading_profile read
+  pub gives : IsConversion syntax reading_profile read answer
 
 -- The lists are those of some content of the file, which is its own where the files are told, or the built-in ones.
 abbrev pub AreAccepted : Option Files → Option (List ℕ) → Lists → Type 0
@@ -93,11 +93,11 @@ AreAddedOrNone held (Some name) terms = AreAdded held name terms
 
 -- The same of some content of each file, which is its own where the files are told.
 pub record IsConvertedThere (held : Option Files) (syntax : Syntax) (sources : Sources) (file : List ℕ) (answer : Answer) : Type 0 where
-  pub basis : Basis
-  pub lists_are : AreAccepted held sources.codes_file basis.lists
-  pub terms_are : AreAddedOrNone held sources.extension_file basis.terms
+  pub reading_profile : ReadingProfile
+  pub lists_are : AreAccepted held sources.codes_file reading_profile.lists
+  pub terms_are : AreAddedOrNone held sources.extension_file reading_profile.terms
   pub content : List ℕ
   pub of_file : IsContentOf held file content
   pub read : Read
-  pub read_as : AreReadAs content basis read
-  pub gives : IsConversion syntax basis read answer
+  pub read_as : AreReadAs content reading_profile read
+  pub gives : IsConversion syntax reading_profile read answer

@@ -22,15 +22,15 @@ use Rattle.bind_run.specs.declared.reading.ReadInvoice.{ReadInvoice}
 use Rattle.bind_run.specs.Extensions.{rows_for}
 use Rattle.bind_run.specs.Reading.{invoice_by}
 use Rattle.extension_laws.specs.Texts.{target_rows, text_by}
-use Rattle.job_course.specs.declared.status.Status.{Status}
-use Rattle.job_course.specs.declared.status.Status.TheVariants as statuses
-use Rattle.job_course.specs.Outside.{TakesOrFails}
-use Rattle.job_course.specs.Course.{Course, ends, done, refusal, by_result, document_course}
-use Rattle.job_course.specs.Views.{document_read}
+use Rattle.job_protocol.specs.declared.status.Status.{Status}
+use Rattle.job_protocol.specs.declared.status.Status.TheVariants as statuses
+use Rattle.job_protocol.specs.Outside.{TakesOrFails}
+use Rattle.job_protocol.specs.Protocol.{Protocol, ends, done, refusal, by_result, document_protocol}
+use Rattle.job_protocol.specs.Views.{document_read}
 use Rattle.invoice_jobs.specs.declared.formats.AnswerFormat.{AnswerFormat}
 use Rattle.invoice_jobs.specs.declared.formats.AnswerFormat.TheVariants as formats
 use Rattle.invoice_jobs.specs.declared.invoices.Loaded.{Loaded}
-use Rattle.invoice_jobs.specs.Sources.{Sources, Basis, no_sources, basis_course, basis_of, term_or_dash}
+use Rattle.invoice_jobs.specs.Sources.{Sources, ReadingProfile, no_sources, profile_protocol, profile_of, term_or_dash}
 
 -- a fault with its term or group, and its place, which is that of its node
 abbrev pub invoice_line : List ℕ → Document → BindFault → List ℕ
@@ -39,34 +39,35 @@ invoice_line file document fault =
     (name_text fault.name ++ (codes " at " ++ (decimal (node_at document.nodes fault.node).place ++ 0xA ∷ []))))))
 
 -- what follows by an invoice, or its first fault
-abbrev pub by_invoice : List ℕ → Document → (Read → Course) → Result Read BindFault → Course
+abbrev pub by_invoice : List ℕ → Document → (Read → Protocol) → Result Read BindFault → Protocol
 by_invoice file document next read = by_result (λ fault. ends (refusal statuses.DocumentRefused (invoice_line file document fault))) next read
 
 -- the invoice of a document by these lists and terms, and what follows by it
-abbrev pub invoice_course : List ℕ → Basis → (Read → Course) → Course
-invoice_course file basis next =
-    document_course file (λ found. by_invoice file (document_read found) next
-    (invoice_by (rows_for basis.terms) (tree_nodes (document_read found)) basis.lists))
+abbrev pub invoice_protocol : List ℕ → ReadingProfile → (Read → Protocol) → Protocol
+invoice_protocol file reading_profile next =
+    document_protocol file (λ found. by_invoice file (document_read found) next
+    (invoice_by (rows_for reading_profile.terms) (tree_nodes (document_read found)) reading_profile.lists))
 
 -- what a job works on: what an invoice is read and written by, and what was read
 pub record Given : Type 0 where
-  pub basis : Basis
+  pub reading_profile : ReadingProfile
   pub read : Read
 
 -- the invoice of a document by what the files beside it give, and what follows by it
-abbrev pub read_course : Sources → List ℕ → (Given → Course) → Course
-read_course sources file next = basis_course sources (λ basis. invoice_course file basis (λ read. next (record { basis = basis; read = read })))
+abbrev pub read_protocol : Sources → List ℕ → (Given → Protocol) → Protocol
+read_protocol sources file next = profile_protocol sources (λ reading_profile. invoice_protocol file reading_profile (λ read. next (record { reading_profile =
+    reading_profile; read = read })))
 
 -- the terms of an invoice, in listing order, and how many elements were passed over
 abbrev pub listing_in : AnswerFormat → List Entry → ℕ → List ℕ
 listing_in formats.Lines entries passed_over = listing entries passed_over
 listing_in formats.Json entries passed_over = encode_utf8_all (document (invoice_json entries passed_over))
 
-abbrev pub listed : AnswerFormat → Given → Course
+abbrev pub listed : AnswerFormat → Given → Protocol
 listed format given = ends (done (listing_in format given.read.entries given.read.passed_over))
 
-abbrev pub show_course : AnswerFormat → Sources → List ℕ → Course
-show_course format sources file = read_course sources file (listed format)
+abbrev pub show_protocol : AnswerFormat → Sources → List ℕ → Protocol
+show_protocol format sources file = read_protocol sources file (listed format)
 
 -- ---- the invoice in a syntax
 
@@ -75,16 +76,16 @@ abbrev pub condition_line : NotCarried → List ℕ
 condition_line fault = codes "einv: condition " ++ (decimal fault.condition ++ (0x20 ∷ (term_or_dash fault.term ++ 0xA ∷ [])))
 
 -- the canonical document of the invoice, or the condition that fails
-abbrev pub by_carrying : List ℕ → Result (Unit {0}) NotCarried → Course
+abbrev pub by_carrying : List ℕ → Result (Unit {0}) NotCarried → Protocol
 by_carrying document carried = by_result (λ fault. ends (refusal statuses.Unable (condition_line fault))) (λ yes. ends (done document)) carried
 
-abbrev pub converted : Syntax → Given → Course
+abbrev pub converted : Syntax → Given → Protocol
 converted syntax given =
-    by_carrying (text_by (rows_for given.basis.terms) syntax given.read.entries)
-    (carrying (target_rows (rows_for given.basis.terms) syntax given.read.entries) given.read.entries)
+    by_carrying (text_by (rows_for given.reading_profile.terms) syntax given.read.entries)
+    (carrying (target_rows (rows_for given.reading_profile.terms) syntax given.read.entries) given.read.entries)
 
-abbrev pub convert_course : Syntax → Sources → List ℕ → Course
-convert_course syntax sources file = read_course sources file (converted syntax)
+abbrev pub convert_protocol : Syntax → Sources → List ℕ → Protocol
+convert_protocol syntax sources file = read_protocol sources file (converted syntax)
 
 -- ---- an attached document
 
@@ -98,12 +99,12 @@ abbrev pub attachment_line : ℕ → AttachFault → List ℕ
 attachment_line number fault = codes "einv: attachment " ++ (decimal number ++ (codes ": " ++ (attach_fault_text fault ++ 0xA ∷ [])))
 
 -- the bytes of the document, or why there are none
-abbrev pub extracted : ℕ → Read → Course
+abbrev pub extracted : ℕ → Read → Protocol
 extracted number read =
     by_result (λ fault. ends (refusal statuses.Unable (attachment_line number fault))) (λ bytes. ends (done bytes)) (attached read.entries number)
 
-abbrev pub extract_course : ℕ → List ℕ → Course
-extract_course number file = read_course no_sources file (λ given. extracted number given.read)
+abbrev pub extract_protocol : ℕ → List ℕ → Protocol
+extract_protocol number file = read_protocol no_sources file (λ given. extracted number given.read)
 
 -- ---- what the code has
 
@@ -112,7 +113,7 @@ abbrev pub read_of : ReadInvoice → Read
 read_of read = record { entries = read.invoice; passed_over = read.passed_over }
 
 abbrev pub given_of : Loaded → Given
-given_of loaded = record { basis = basis_of loaded.basis; read = read_of loaded.read }
+given_of loaded = record { reading_profile = profile_of loaded.reading_profile; read = read_of loaded.read }
 
 -- The status of a fault whose line was told; want of memory has none.
 abbrev pub IsInvoiceRefusal : Document → List ℕ → BindFault → Status → SinkView → SinkView → Type 0

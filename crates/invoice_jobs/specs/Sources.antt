@@ -16,12 +16,12 @@ use Rattle.bind_run.specs.declared.extensions.BadRow.{BadRow}
 use Rattle.bind_run.specs.declared.extensions.ExtendFault.{ExtendFault}
 use Rattle.bind_run.specs.declared.extensions.ExtendFault.TheVariants as extend_faults
 use Rattle.bind_run.specs.Extensions.{rows_for, judged}
-use Rattle.job_course.specs.declared.status.Status.{Status}
-use Rattle.job_course.specs.declared.status.Status.TheVariants as statuses
-use Rattle.job_course.specs.Outside.{TakesOrFails}
-use Rattle.job_course.specs.Course.{Course, ends, refusal, by_result, lists_course, taken_course}
-use Rattle.job_course.specs.Views.{text_of}
-use Rattle.invoice_jobs.specs.declared.sources.Basis.{Basis as HeldBasis}
+use Rattle.job_protocol.specs.declared.status.Status.{Status}
+use Rattle.job_protocol.specs.declared.status.Status.TheVariants as statuses
+use Rattle.job_protocol.specs.Outside.{TakesOrFails}
+use Rattle.job_protocol.specs.Protocol.{Protocol, ends, refusal, by_result, lists_protocol, taken_protocol}
+use Rattle.job_protocol.specs.Views.{text_of}
+use Rattle.invoice_jobs.specs.declared.sources.ReadingProfile.{ReadingProfile as HeldProfile}
 use Rattle.invoice_jobs.specs.declared.sources.Sources.{Sources as NamedSources}
 
 -- the files beside the document, as far as they are named: of code lists, and of terms
@@ -33,16 +33,16 @@ abbrev pub no_sources : Sources
 no_sources = record { codes_file = None; extension_file = None }
 
 -- what an invoice is read and written by: the code lists, and the terms that a user adds
-pub record Basis : Type 0 where
+pub record ReadingProfile : Type 0 where
   pub lists : Lists
   pub terms : List ExtTerm
 
 -- ---- code lists
 
 -- the lists of a file, or the built-in ones, and what follows by them
-abbrev pub listed_course : Option (List ℕ) → (Lists → Course) → Course
-listed_course None next = next built_in_lists
-listed_course (Some file) next = lists_course file next
+abbrev pub listed_protocol : Option (List ℕ) → (Lists → Protocol) → Protocol
+listed_protocol None next = next built_in_lists
+listed_protocol (Some file) next = lists_protocol file next
 
 -- ---- terms
 
@@ -69,38 +69,38 @@ term_or_dash (Some term) = term_text term
 abbrev pub bad_row_line : List ℕ → BadRow → List ℕ
 bad_row_line file bad = codes "einv: " ++ (file ++ (codes ": " ++ (table_kind_text bad.kind ++ (term_or_dash bad.term ++ 0xA ∷ []))))
 
-abbrev pub by_good : List ℕ → List ExtTerm → (List ExtTerm → Course) → Result (Unit {0}) BadRow → Course
+abbrev pub by_good : List ℕ → List ExtTerm → (List ExtTerm → Protocol) → Result (Unit {0}) BadRow → Protocol
 by_good file terms next good = by_result (λ bad. ends (refusal statuses.RulesRefused (bad_row_line file bad))) (λ yes. next terms) good
 
 -- the terms of a file, if each of the three tables is well formed with them, and what follows by them
-abbrev pub by_terms : List ℕ → (List ExtTerm → Course) → Result (List ExtTerm) ExtFault → Course
+abbrev pub by_terms : List ℕ → (List ExtTerm → Protocol) → Result (List ExtTerm) ExtFault → Protocol
 by_terms file next found =
     by_result (λ fault. ends (refusal statuses.RulesRefused (extension_line file fault))) (λ terms. by_good file terms next (judged (rows_for terms))) found
 
-abbrev pub terms_course : List ℕ → (List ExtTerm → Course) → Course
-terms_course file next = taken_course file (λ bytes. by_terms file next (file_terms bytes))
+abbrev pub terms_protocol : List ℕ → (List ExtTerm → Protocol) → Protocol
+terms_protocol file next = taken_protocol file (λ bytes. by_terms file next (file_terms bytes))
 
 -- the same, or no terms where no file is named
-abbrev pub extended_course : Option (List ℕ) → (List ExtTerm → Course) → Course
-extended_course None next = next []
-extended_course (Some file) next = terms_course file next
+abbrev pub extended_protocol : Option (List ℕ) → (List ExtTerm → Protocol) → Protocol
+extended_protocol None next = next []
+extended_protocol (Some file) next = terms_protocol file next
 
 -- ---- both
 
--- the lists that a course gives, and the terms of the file that is named
-abbrev pub with_terms : ((Lists → Course) → Course) → Option (List ℕ) → (Basis → Course) → Course
-with_terms listed extension_file next = listed (λ lists. extended_course extension_file (λ terms. next (record { lists = lists; terms = terms })))
+-- the lists that a protocol gives, and the terms of the file that is named
+abbrev pub with_terms : ((Lists → Protocol) → Protocol) → Option (List ℕ) → (ReadingProfile → Protocol) → Protocol
+with_terms listed extension_file next = listed (λ lists. extended_protocol extension_file (λ terms. next (record { lists = lists; terms = terms })))
 
-abbrev pub basis_course : Sources → (Basis → Course) → Course
-basis_course sources next = with_terms (listed_course sources.codes_file) sources.extension_file next
+abbrev pub profile_protocol : Sources → (ReadingProfile → Protocol) → Protocol
+profile_protocol sources next = with_terms (listed_protocol sources.codes_file) sources.extension_file next
 
 -- ---- what the code has
 
 abbrev pub sources_of : NamedSources → Sources
 sources_of sources = record { codes_file = option_map text_of sources.codes_file; extension_file = option_map text_of sources.extension_file }
 
-abbrev pub basis_of : HeldBasis → Basis
-basis_of basis = record { lists = basis.lists; terms = basis.extension }
+abbrev pub profile_of : HeldProfile → ReadingProfile
+profile_of reading_profile = record { lists = reading_profile.lists; terms = reading_profile.extension }
 
 -- The status of a fault whose line was told; want of memory has none.
 abbrev pub IsExtensionRefusal : ExtFault → List ℕ → Status → SinkView → SinkView → Type 0

@@ -2,16 +2,16 @@
 ghost use Rattle.std.specs.Prelude.{◌≡◌};
 ghost use Rattle.inv_base.specs.Outside.{ShelfView, SinkView};
 ghost use Rattle.inv_totals.specs.Totals as totals;
-ghost use Rattle.job_course.specs.Runs.{Runs};
+ghost use Rattle.job_protocol.specs.Runs.{Runs};
 ghost use Rattle.invoice_jobs.specs.Sources.{sources_of};
-ghost use Rattle.invoice_jobs.specs.Totals.{status_by, totalled, totals_course};
+ghost use Rattle.invoice_jobs.specs.Totals.{status_by, totalled, totals_protocol};
 
 use crate::invoices::load;
 use crate::sources::Sources;
 use inv_base::{Shelf, Sink};
 use inv_terms::Invoice;
 use inv_totals::{Differences, differences, write_differences};
-use job_course::Status;
+use job_protocol::Status;
 use std::alloc::Global;
 
 /// Lists each total of an invoice that isn't what its other values make of it, and how many they are.
@@ -23,7 +23,7 @@ pub fn totals<S: Shelf, O: Sink, E: Sink>(
     out: &mut O,
     err: &mut E,
 ) -> Status
-    ensures { Runs (totals_course (sources_of sources.now) file.now)
+    ensures { Runs (totals_protocol (sources_of sources.now) file.now)
         (record { shelf = S.view shelf.old; out = O.view out.old; err = E.view err.old })
         (record { shelf = S.view shelf.new; out = O.view out.new; err = E.view err.new }) result }
 {

@@ -8,12 +8,12 @@ ghost use Rattle.bind_meaning.specs.Terms.{Read};
 ghost use Rattle.bind_meaning.specs.declared.tables.Syntax.{Syntax};
 ghost use Rattle.bind_run.specs.Extensions.{AreGood};
 ghost use Rattle.written_laws.specs.Texts.{exactly};
-ghost use Rattle.job_course.specs.declared.status.Status.TheVariants as statuses;
-ghost use Rattle.job_course.specs.Course.{Answer, answer_of};
-ghost use Rattle.job_course.specs.Runs.{EndsIn};
-ghost use Rattle.invoice_jobs.specs.Sources.{Sources, Basis};
-ghost use Rattle.invoice_jobs.specs.Invoices.{convert_course};
-ghost use Rattle.invoice_jobs.specs.Conversions.{AreReadAs, IsBasis, IsReadAs, IsCarriedBy, Holds, text_of_invoice, IsDocumentText, IsConverted};
+ghost use Rattle.job_protocol.specs.declared.status.Status.TheVariants as statuses;
+ghost use Rattle.job_protocol.specs.Protocol.{Answer, answer_of};
+ghost use Rattle.job_protocol.specs.Runs.{EndsIn};
+ghost use Rattle.invoice_jobs.specs.Sources.{Sources, ReadingProfile};
+ghost use Rattle.invoice_jobs.specs.Invoices.{convert_protocol};
+ghost use Rattle.invoice_jobs.specs.Conversions.{AreReadAs, IsProfile, IsReadAs, IsCarriedBy, Holds, text_of_invoice, IsDocumentText, IsConverted};
 ghost use Rattle.invoice_jobs.specs.Conversions.{IsConvertedThere};
 
 use cii_binding::cii_is_well_formed;
@@ -27,8 +27,9 @@ use xml_laws::read_tells_its_tree;
 /// The invoice that a file is read as, by terms with which the tables are well formed, has its terms in listing order, and is valid
 /// by the code lists. The law has no code.
 pub fn read_files_are_valid_invoices()
-    ensures { (files : Files) (file : List ℕ) (basis : Basis) (read : Read) → AreGood basis.terms → IsReadAs files file basis read
-        → IsInvoice read.entries × IsValid read.entries basis.lists }
+    ensures { (files : Files) (file : List ℕ) (reading_profile : ReadingProfile) (read : Read) → AreGood reading_profile.terms
+        → IsReadAs files file reading_profile read
+        → IsInvoice read.entries × IsValid read.entries reading_profile.lists }
 {
     read_tells_its_tree();
     events_build_the_nodes_of_their_tree();
@@ -38,7 +39,7 @@ pub fn read_files_are_valid_invoices()
 
 /// The terms that the files beside a document give are such terms. The law has no code.
 pub fn accepted_terms_are_good()
-    ensures { (files : Files) (sources : Sources) (basis : Basis) → IsBasis files sources basis → AreGood basis.terms }
+    ensures { (files : Files) (sources : Sources) (reading_profile : ReadingProfile) → IsProfile files sources reading_profile → AreGood reading_profile.terms }
 {
     file_terms_are_extensions();
     no_terms_are_good();
@@ -56,9 +57,10 @@ fn no_terms_are_good()
 /// A file that holds the text of a valid invoice in a syntax that carries it is read, by the same files beside it, as exactly
 /// its terms. The law has no code.
 pub fn carried_texts_are_read_exactly()
-    ensures { (files : Files) (file : List ℕ) (sources : Sources) (basis : Basis) (syntax : Syntax) (es : List Entry)
-        → IsInvoice es → IsValid es basis.lists → IsCarriedBy syntax basis es → Holds files file (text_of_invoice syntax basis es) sources basis
-        → IsReadAs files file basis (exactly es) }
+    ensures { (files : Files) (file : List ℕ) (sources : Sources) (reading_profile : ReadingProfile) (syntax : Syntax) (es : List Entry)
+        → IsInvoice es → IsValid es reading_profile.lists → IsCarriedBy syntax reading_profile es
+            → Holds files file (text_of_invoice syntax reading_profile es) sources reading_profile
+        → IsReadAs files file reading_profile (exactly es) }
 {
     accepted_terms_are_good();
     good_extensions_are_open();
@@ -68,8 +70,9 @@ pub fn carried_texts_are_read_exactly()
 /// What was read as an invoice that a syntax carries, by terms with which the tables are well formed, has a text there which is XML
 /// of exactly the tree of its document, and which is read as exactly its terms. The law has no code.
 pub fn converted_texts_are_documents()
-    ensures { (bytes : List ℕ) (basis : Basis) (read : Read) (syntax : Syntax) → AreGood basis.terms → AreReadAs bytes basis read
-        → IsCarriedBy syntax basis read.entries → IsDocumentText syntax basis read.entries }
+    ensures { (bytes : List ℕ) (reading_profile : ReadingProfile) (read : Read) (syntax : Syntax) → AreGood reading_profile.terms
+        → AreReadAs bytes reading_profile read
+        → IsCarriedBy syntax reading_profile read.entries → IsDocumentText syntax reading_profile read.entries }
 {
     read_tells_its_tree();
     events_build_the_nodes_of_their_tree();
@@ -85,10 +88,10 @@ pub fn converted_texts_are_documents()
 /// where they aren't. The law has no code.
 pub fn done_conversions_are_documents()
     ensures told { (files : Files) (syntax : Syntax) (sources : Sources) (file : List ℕ)
-        → (answer_of (convert_course syntax sources file) files).status ≡ statuses.Done
-        → IsConverted files syntax sources file (answer_of (convert_course syntax sources file) files) }
+        → (answer_of (convert_protocol syntax sources file) files).status ≡ statuses.Done
+        → IsConverted files syntax sources file (answer_of (convert_protocol syntax sources file) files) }
     ensures ended { (held : Option Files) (syntax : Syntax) (sources : Sources) (file : List ℕ) (count : ℕ) (answer : Answer)
-        → EndsIn held (convert_course syntax sources file) count answer → answer.status ≡ statuses.Done
+        → EndsIn held (convert_protocol syntax sources file) count answer → answer.status ≡ statuses.Done
         → IsConvertedThere held syntax sources file answer }
 {
     file_terms_are_extensions();

@@ -5,15 +5,15 @@ ghost use Rattle.inv_base.specs.Outside.{ShelfView};
 ghost use Rattle.bind_run.specs.Extensions.{AreGood, rows_for};
 ghost use Rattle.bind_run.specs.Reading.{AreTablesFor};
 ghost use Rattle.extension_laws.specs.Texts.{target_rows};
-ghost use Rattle.job_course.specs.Runs.{Runs, Continues, Fails};
-ghost use Rattle.invoice_jobs.specs.Sources.{basis_of, sources_of};
-ghost use Rattle.invoice_jobs.specs.Invoices.{read_of, given_of, IsInvoiceRefusal, invoice_course, read_course, show_course, converted, convert_course};
-ghost use Rattle.invoice_jobs.specs.Invoices.{extracted, extract_course, listing_in};
+ghost use Rattle.job_protocol.specs.Runs.{Runs, Continues, Fails};
+ghost use Rattle.invoice_jobs.specs.Sources.{profile_of, sources_of};
+ghost use Rattle.invoice_jobs.specs.Invoices.{read_of, given_of, IsInvoiceRefusal, invoice_protocol, read_protocol, show_protocol, converted, convert_protocol};
+ghost use Rattle.invoice_jobs.specs.Invoices.{extracted, extract_protocol, listing_in};
 ghost use Rattle.inv_base.specs.Printing.{Printed};
 
 use crate::formats::AnswerFormat;
 use crate::refusals::{tell_attach_fault, tell_condition, tell_invoice_fault};
-use crate::sources::{Basis, NO_SOURCES, Sources, load_basis};
+use crate::sources::{NO_SOURCES, ReadingProfile, Sources, load_profile};
 use bind_run::{BindFault, BindKind, ReadInvoice, Syntax, carries, read_document, target, write};
 use bind_table::Binding;
 use bumpalo::Bump;
@@ -22,23 +22,23 @@ use inv_base::{Shelf, Sink};
 use inv_listing::print_listing;
 use inv_terms::{AttachFault, attachment};
 use invoice_json::print_json;
-use job_course::{Status, load_document};
+use job_protocol::{Status, load_document};
 use node_arena::Doc;
 use std::alloc::Global;
 
 /// The invoice of a file, or the status with which the job ends.
 fn load_invoice<S: Shelf, E: Sink>(
     alloc: Global,
-    basis: &Basis,
+    reading_profile: &ReadingProfile,
     file: &str,
     shelf: &mut S,
     err: &mut E,
 ) -> Result<ReadInvoice, Status>
-    requires tables { AreTablesFor basis.now.extension basis.now.tables }
-    requires good { AreGood basis.now.extension }
-    ensures goes_on { IfOk result (λ read. Continues (invoice_course file.now (basis_of basis.now)) (read_of read)
+    requires tables { AreTablesFor reading_profile.now.extension reading_profile.now.tables }
+    requires good { AreGood reading_profile.now.extension }
+    ensures goes_on { IfOk result (λ read. Continues (invoice_protocol file.now (profile_of reading_profile.now)) (read_of read)
         (S.view shelf.old) (S.view shelf.new) (E.view err.old) (E.view err.new)) }
-    ensures fails { IfErr result (λ status. Fails (invoice_course file.now (basis_of basis.now)) status
+    ensures fails { IfErr result (λ status. Fails (invoice_protocol file.now (profile_of reading_profile.now)) status
         (S.view shelf.old) (S.view shelf.new) (E.view err.old) (E.view err.new)) }
 {
     let bump = Bump::new(alloc);
@@ -46,7 +46,7 @@ fn load_invoice<S: Shelf, E: Sink>(
         Ok(doc) => doc,
         Err(status) => return Err(status),
     };
-    match read_document(alloc, &doc, &basis.tables, &basis.lists) {
+    match read_document(alloc, &doc, &reading_profile.tables, &reading_profile.lists) {
         Ok(read) => Ok(read),
         Err(fault) => Err(refuse_invoice(&doc, file, &fault, err)),
     }
@@ -68,14 +68,17 @@ pub fn refuse_invoice<E: Sink>(doc: &Doc<'_>, file: &str, fault: &BindFault, err
 
 /// What a job works on: what an invoice is read and written by, and the invoice.
 pub(crate) struct Loaded {
-    pub(crate) basis: Basis,
+    pub(crate) reading_profile: ReadingProfile,
     pub(crate) read: ReadInvoice,
 }
 
 impl Drop for Loaded {
     fn drop(self) {
-        let Loaded { basis, read } = self;
-        drop(basis);
+        let Loaded {
+            reading_profile,
+            read,
+        } = self;
+        drop(reading_profile);
         drop(read);
     }
 }
@@ -89,21 +92,24 @@ pub(crate) fn load<S: Shelf, E: Sink>(
     shelf: &mut S,
     err: &mut E,
 ) -> Result<Loaded, Status>
-    ensures tables { IfOk result (λ loaded. AreTablesFor loaded.basis.extension loaded.basis.tables) }
-    ensures good { IfOk result (λ loaded. AreGood loaded.basis.extension) }
-    ensures goes_on { IfOk result (λ loaded. Continues (read_course (sources_of sources.now) file.now) (given_of loaded)
+    ensures tables { IfOk result (λ loaded. AreTablesFor loaded.reading_profile.extension loaded.reading_profile.tables) }
+    ensures good { IfOk result (λ loaded. AreGood loaded.reading_profile.extension) }
+    ensures goes_on { IfOk result (λ loaded. Continues (read_protocol (sources_of sources.now) file.now) (given_of loaded)
         (S.view shelf.old) (S.view shelf.new) (E.view err.old) (E.view err.new)) }
-    ensures fails { IfErr result (λ status. Fails (read_course (sources_of sources.now) file.now) status
+    ensures fails { IfErr result (λ status. Fails (read_protocol (sources_of sources.now) file.now) status
         (S.view shelf.old) (S.view shelf.new) (E.view err.old) (E.view err.new)) }
 {
-    let basis = match load_basis(alloc, sources, shelf, err) {
-        Ok(basis) => basis,
+    let reading_profile = match load_profile(alloc, sources, shelf, err) {
+        Ok(reading_profile) => reading_profile,
         Err(status) => return Err(status),
     };
-    match load_invoice(alloc, &basis, file, shelf, err) {
-        Ok(read) => Ok(Loaded { basis, read }),
+    match load_invoice(alloc, &reading_profile, file, shelf, err) {
+        Ok(read) => Ok(Loaded {
+            reading_profile,
+            read,
+        }),
         Err(status) => {
-            drop(basis);
+            drop(reading_profile);
             Err(status)
         }
     }
@@ -119,7 +125,7 @@ pub fn show<S: Shelf, O: Sink, E: Sink>(
     out: &mut O,
     err: &mut E,
 ) -> Status
-    ensures { Runs (show_course format (sources_of sources.now) file.now)
+    ensures { Runs (show_protocol format (sources_of sources.now) file.now)
         (record { shelf = S.view shelf.old; out = O.view out.old; err = E.view err.old })
         (record { shelf = S.view shelf.new; out = O.view out.new; err = E.view err.new }) result }
 {
@@ -154,7 +160,7 @@ pub fn convert<S: Shelf, O: Sink, E: Sink>(
     out: &mut O,
     err: &mut E,
 ) -> Status
-    ensures { Runs (convert_course syntax (sources_of sources.now) file.now)
+    ensures { Runs (convert_protocol syntax (sources_of sources.now) file.now)
         (record { shelf = S.view shelf.old; out = O.view out.old; err = E.view err.old })
         (record { shelf = S.view shelf.new; out = O.view out.new; err = E.view err.new }) result }
 {
@@ -172,14 +178,14 @@ fn write_converted<O: Sink, E: Sink>(
     out: &mut O,
     err: &mut E,
 ) -> Status
-    requires tables { AreTablesFor loaded.now.basis.extension loaded.now.basis.tables }
-    requires good { AreGood loaded.now.basis.extension }
+    requires tables { AreTablesFor loaded.now.reading_profile.extension loaded.now.reading_profile.tables }
+    requires good { AreGood loaded.now.reading_profile.extension }
     ensures { (shelf : ShelfView) → Runs (converted syntax (given_of loaded.now))
         (record { shelf = shelf; out = O.view out.old; err = E.view err.old })
         (record { shelf = shelf; out = O.view out.new; err = E.view err.new }) result }
 {
-    let which = target(&loaded.read.invoice, syntax);
-    match loaded.basis.tables.table(alloc, which) {
+    let document_type = target(&loaded.read.invoice, syntax);
+    match loaded.reading_profile.tables.table(alloc, document_type) {
         Ok(table) => {
             let status = write_by(loaded, syntax, table.as_ref(), out, err);
             drop(table);
@@ -197,8 +203,8 @@ fn write_by<O: Sink, E: Sink>(
     out: &mut O,
     err: &mut E,
 ) -> Status
-    requires table { table.now ≡ target_rows (rows_for loaded.now.basis.extension) syntax loaded.now.read.invoice }
-    requires good { AreGood loaded.now.basis.extension }
+    requires table { table.now ≡ target_rows (rows_for loaded.now.reading_profile.extension) syntax loaded.now.read.invoice }
+    requires good { AreGood loaded.now.reading_profile.extension }
     ensures { (shelf : ShelfView) → Runs (converted syntax (given_of loaded.now))
         (record { shelf = shelf; out = O.view out.old; err = E.view err.old })
         (record { shelf = shelf; out = O.view out.new; err = E.view err.new }) result }
@@ -227,7 +233,7 @@ pub fn extract<S: Shelf, O: Sink, E: Sink>(
     out: &mut O,
     err: &mut E,
 ) -> Status
-    ensures { Runs (extract_course number file.now)
+    ensures { Runs (extract_protocol number file.now)
         (record { shelf = S.view shelf.old; out = O.view out.old; err = E.view err.old })
         (record { shelf = S.view shelf.new; out = O.view out.new; err = E.view err.new }) result }
 {

@@ -16,4 +16,4 @@ pub use conversions::{
 };
 pub use formats::AnswerFormat;
 pub use invoices::{convert, extract, refuse_invoice, show};
-pub use sources::{Basis, Extended, NO_SOURCES, Sources, load_extended};
+pub use sources::{Extended, NO_SOURCES, ReadingProfile, Sources, load_extended};

@@ -1,7 +1,7 @@
 //! The lines of invoices that are refused, or of which something can't be done.
 ghost use Rattle.std.specs.Prelude.{◌≡◌, ◌<◌, length};
 ghost use Rattle.inv_base.specs.Printing.{Prints};
-ghost use Rattle.job_course.specs.Outside.{TakesOrFails};
+ghost use Rattle.job_protocol.specs.Outside.{TakesOrFails};
 ghost use Rattle.invoice_jobs.specs.Sources.{term_or_dash, extension_line, extension_fault_text, bad_row_line, table_kind_text};
 ghost use Rattle.invoice_jobs.specs.Invoices.{invoice_line, condition_line, attachment_line, attach_fault_text};
 

@@ -3,11 +3,11 @@
 ghost use Rattle.std.specs.Prelude.{◌≡◌, [], IfOk, IfErr, option_map};
 ghost use Rattle.bind_run.specs.Extensions.{judged, rows_for, AreGood};
 ghost use Rattle.bind_run.specs.Reading.{AreTablesFor};
-ghost use Rattle.job_course.specs.declared.status.Status.TheVariants as statuses;
-ghost use Rattle.job_course.specs.Outside.{TakesOrFails};
-ghost use Rattle.job_course.specs.Runs.{Continues, Fails};
-ghost use Rattle.job_course.specs.Views.{text_of};
-ghost use Rattle.invoice_jobs.specs.Sources.{listed_course, extended_course, terms_course, basis_course, basis_of, sources_of, extension_line};
+ghost use Rattle.job_protocol.specs.declared.status.Status.TheVariants as statuses;
+ghost use Rattle.job_protocol.specs.Outside.{TakesOrFails};
+ghost use Rattle.job_protocol.specs.Runs.{Continues, Fails};
+ghost use Rattle.job_protocol.specs.Views.{text_of};
+ghost use Rattle.invoice_jobs.specs.Sources.{listed_protocol, extended_protocol, terms_protocol, profile_protocol, profile_of, sources_of, extension_line};
 ghost use Rattle.invoice_jobs.specs.Sources.{IsExtensionRefusal, IsRowRefusal, IsRefusedBy};
 
 use crate::refusals::{tell_bad_row, tell_extension_fault};
@@ -15,7 +15,7 @@ use bind_run::{ExtendFault, Tables};
 use code_lists::CodeLists;
 use extension_files::{ExtFault, Extension};
 use inv_base::{Shelf, Sink};
-use job_course::{Status, take_file, take_lists};
+use job_protocol::{Status, take_file, take_lists};
 use std::alloc::Global;
 
 /// The files beside the document, as far as they are named.
@@ -34,15 +34,15 @@ pub const NO_SOURCES: Sources<'static> = Sources {
 };
 
 /// What an invoice is read and written by: the code lists, the terms that a user adds, and the three tables with them.
-pub struct Basis {
+pub struct ReadingProfile {
     pub lists: CodeLists,
     pub extension: Extension,
     pub tables: Tables,
 }
 
-impl Drop for Basis {
+impl Drop for ReadingProfile {
     fn drop(self) {
-        let Basis {
+        let ReadingProfile {
             lists,
             extension,
             tables,
@@ -66,9 +66,9 @@ fn load_lists<S: Shelf, E: Sink>(
     shelf: &mut S,
     err: &mut E,
 ) -> Result<CodeLists, Status>
-    ensures goes_on { IfOk result (λ lists. Continues (listed_course (option_map text_of codes_file.entry)) lists
+    ensures goes_on { IfOk result (λ lists. Continues (listed_protocol (option_map text_of codes_file.entry)) lists
         (S.view shelf.old) (S.view shelf.new) (E.view err.old) (E.view err.new)) }
-    ensures fails { IfErr result (λ status. Fails (listed_course (option_map text_of codes_file.entry)) status
+    ensures fails { IfErr result (λ status. Fails (listed_protocol (option_map text_of codes_file.entry)) status
         (S.view shelf.old) (S.view shelf.new) (E.view err.old) (E.view err.new)) }
 {
     match codes_file {
@@ -101,9 +101,9 @@ fn load_terms<S: Shelf, E: Sink>(
 ) -> Result<Extended, Status>
     ensures tables { IfOk result (λ extended. AreTablesFor extended.extension extended.tables) }
     ensures good { IfOk result (λ extended. AreGood extended.extension) }
-    ensures goes_on { IfOk result (λ extended. Continues (terms_course file.now) extended.extension
+    ensures goes_on { IfOk result (λ extended. Continues (terms_protocol file.now) extended.extension
         (S.view shelf.old) (S.view shelf.new) (E.view err.old) (E.view err.new)) }
-    ensures fails { IfErr result (λ status. Fails (terms_course file.now) status
+    ensures fails { IfErr result (λ status. Fails (terms_protocol file.now) status
         (S.view shelf.old) (S.view shelf.new) (E.view err.old) (E.view err.new)) }
 {
     let bytes = match take_file(alloc, shelf, file, err) {
@@ -185,9 +185,9 @@ pub fn load_extended<S: Shelf, E: Sink>(
 ) -> Result<Extended, Status>
     ensures tables { IfOk result (λ extended. AreTablesFor extended.extension extended.tables) }
     ensures good { IfOk result (λ extended. AreGood extended.extension) }
-    ensures goes_on { IfOk result (λ extended. Continues (extended_course (option_map text_of extension_file.entry)) extended.extension
+    ensures goes_on { IfOk result (λ extended. Continues (extended_protocol (option_map text_of extension_file.entry)) extended.extension
         (S.view shelf.old) (S.view shelf.new) (E.view err.old) (E.view err.new)) }
-    ensures fails { IfErr result (λ status. Fails (extended_course (option_map text_of extension_file.entry)) status
+    ensures fails { IfErr result (λ status. Fails (extended_protocol (option_map text_of extension_file.entry)) status
         (S.view shelf.old) (S.view shelf.new) (E.view err.old) (E.view err.new)) }
 {
     match extension_file {
@@ -197,17 +197,17 @@ pub fn load_extended<S: Shelf, E: Sink>(
 }
 
 /// What an invoice is read and written by, of the files that are named; or the status with which the job ends.
-pub(crate) fn load_basis<S: Shelf, E: Sink>(
+pub(crate) fn load_profile<S: Shelf, E: Sink>(
     alloc: Global,
     sources: &Sources<'_>,
     shelf: &mut S,
     err: &mut E,
-) -> Result<Basis, Status>
-    ensures tables { IfOk result (λ basis. AreTablesFor basis.extension basis.tables) }
-    ensures good { IfOk result (λ basis. AreGood basis.extension) }
-    ensures goes_on { IfOk result (λ basis. Continues (basis_course (sources_of sources.now)) (basis_of basis)
+) -> Result<ReadingProfile, Status>
+    ensures tables { IfOk result (λ reading_profile. AreTablesFor reading_profile.extension reading_profile.tables) }
+    ensures good { IfOk result (λ reading_profile. AreGood reading_profile.extension) }
+    ensures goes_on { IfOk result (λ reading_profile. Continues (profile_protocol (sources_of sources.now)) (profile_of reading_profile)
         (S.view shelf.old) (S.view shelf.new) (E.view err.old) (E.view err.new)) }
-    ensures fails { IfErr result (λ status. Fails (basis_course (sources_of sources.now)) status
+    ensures fails { IfErr result (λ status. Fails (profile_protocol (sources_of sources.now)) status
         (S.view shelf.old) (S.view shelf.new) (E.view err.old) (E.view err.new)) }
 {
     let lists = match load_lists(alloc, sources.codes_file, shelf, err) {
@@ -215,7 +215,7 @@ pub(crate) fn load_basis<S: Shelf, E: Sink>(
         Err(status) => return Err(status),
     };
     match load_extended(alloc, sources.extension_file, shelf, err) {
-        Ok(Extended { extension, tables }) => Ok(Basis {
+        Ok(Extended { extension, tables }) => Ok(ReadingProfile {
             lists,
             extension,
             tables,

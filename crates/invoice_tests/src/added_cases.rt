@@ -14,7 +14,7 @@ use inv_listing::print_listing;
 use inv_terms::{Entry, Invoice, Value, check};
 use std::alloc::{AllocError, Global};
 use std::test::Fail;
-use term_table::{Context, Group, Letter, ROOT, Term, letter_in, list_in, row_in};
+use term_table::{Context, DataType, Group, ROOT, Term, data_type_in, list_in, row_in};
 use test_rows::expect;
 
 fn row_of(number: u16, group: Group) -> Option<usize> {
@@ -42,7 +42,7 @@ fn added_terms_have_no_type_and_no_list() -> Result<(), Fail> {
         number: 1001,
         part: 0,
     };
-    let typed = letter_in(term, None, None).is_some();
+    let typed = data_type_in(term, None, None).is_some();
     let listed = list_in(term, None, None).is_some();
     expect(!typed & !listed, "EXT-1")
 }
@@ -52,13 +52,13 @@ fn push_added(
     alloc: Global,
     invoice: &mut Invoice,
     term: Term,
-    letter: Letter,
+    data_type: DataType,
     context: Context,
 ) -> Result<&'static str, AllocError>
     requires added { is_extension term ≡ true }
-    requires typed { is_base64 letter ≡ false }
+    requires typed { is_base64 data_type ≡ false }
 {
-    match Value::read(alloc, letter, "X")? {
+    match Value::read(alloc, data_type, "X")? {
         Some(value) => Ok(pushed(
             invoice,
             Entry {
@@ -121,7 +121,7 @@ fn push_number(
         return Ok("no term");
     }
     let context = context_of(Group::InvoiceLine, line, 0);
-    push_added(alloc, invoice, term, Letter::T, context)
+    push_added(alloc, invoice, term, DataType::T, context)
 }
 
 fn expect_push(alloc: Global, invoice: &mut Invoice, row: &'static str) -> Result<(), Fail> {
@@ -201,7 +201,7 @@ const FIRST: Term = Term {
 
 fn is_refused_in_note(alloc: Global, invoice: &mut Invoice) -> Result<bool, AllocError> {
     let note = context_of(Group::InvoiceNote, 1, 0);
-    let answer = push_added(alloc, invoice, FIRST, Letter::T, note)?;
+    let answer = push_added(alloc, invoice, FIRST, DataType::T, note)?;
     Ok(answer == "context" && invoice.entry(0).is_none())
 }
 
@@ -215,7 +215,7 @@ fn no_other_group_has_added_terms(rt: HostRuntime) -> Result<(), Fail> {
 
 /// Whether a code of an added term is in the invoice, and nothing is wrong with it.
 fn is_checked(alloc: Global, invoice: &mut Invoice) -> Result<bool, Fail> {
-    let answer = push_added(alloc, invoice, FIRST, Letter::C, ROOT)?;
+    let answer = push_added(alloc, invoice, FIRST, DataType::C, ROOT)?;
     let found = invoice.value(FIRST, ROOT).is_some();
     let lists = CodeLists::built_in(alloc)?;
     let valid = check(invoice, &lists) == Ok(());

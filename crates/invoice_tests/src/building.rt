@@ -8,7 +8,7 @@ use code_lists::List;
 use inv_terms::{Entry, Invoice, PushFault, Value};
 use std::alloc::{AllocError, Global};
 use std::test::Fail;
-use term_table::{Context, Group, Letter, ROOT, Slot, TermRow, term_row, terms_have_one_type};
+use term_table::{Context, DataType, Group, ROOT, Slot, TermRow, term_row, terms_have_one_type};
 use test_rows::expect;
 
 /// An entry of the k-th row, unless the text has no value.
@@ -22,7 +22,7 @@ pub fn entry_of(
 {
     terms_have_one_type();
     match term_row(k) {
-        Some(row) => match Value::read(alloc, row.letter, text)? {
+        Some(row) => match Value::read(alloc, row.data_type, text)? {
             Some(value) => Ok(Some(Entry {
                 context,
                 term: row.term,
@@ -58,10 +58,10 @@ pub fn context_of(group: Group, outer: u32, inner: u32) -> Context {
 
 /// A text that has a value of the row's type, and is in its list.
 pub fn sample(row: &TermRow) -> &'static str {
-    match row.letter {
-        Letter::A | Letter::Q | Letter::P => "1.50",
-        Letter::D => "2024-02-29",
-        Letter::C => match row.list {
+    match row.data_type {
+        DataType::A | DataType::Q | DataType::P => "1.50",
+        DataType::D => "2024-02-29",
+        DataType::C => match row.list {
             Some(List::Point) => "35",
             _ => "S",
         },

@@ -4,7 +4,7 @@ use bind_rows::{ElementName, Many, prefix_of};
 use extension_files::{ExtFault, ExtPlace, ExtTerm, Extension};
 use std::alloc::{AllocError, Global};
 use std::test::Fail;
-use term_table::Letter;
+use term_table::DataType;
 use test_rows::{Shown, expect, expect_shown};
 
 fn word_of_place(place: ExtPlace) -> &'static str {
@@ -14,16 +14,16 @@ fn word_of_place(place: ExtPlace) -> &'static str {
     }
 }
 
-fn word_of_letter(letter: Letter) -> &'static str {
-    match letter {
-        Letter::T => "T",
-        Letter::I => "I",
-        Letter::C => "C",
-        Letter::A => "A",
-        Letter::Q => "Q",
-        Letter::P => "P",
-        Letter::D => "D",
-        Letter::B => "B",
+fn word_of_letter(data_type: DataType) -> &'static str {
+    match data_type {
+        DataType::T => "T",
+        DataType::I => "I",
+        DataType::C => "C",
+        DataType::A => "A",
+        DataType::Q => "Q",
+        DataType::P => "P",
+        DataType::D => "D",
+        DataType::B => "B",
     }
 }
 
@@ -61,7 +61,7 @@ fn push_head(alloc: Global, told: &mut String, term: &ExtTerm) -> Result<(), All
     told.push_str(head.as_str())?;
     told.push_str(word_of_place(term.place))?;
     told.push_str(" ")?;
-    told.push_str(word_of_letter(term.letter))
+    told.push_str(word_of_letter(term.data_type))
 }
 
 fn push_term(alloc: Global, told: &mut String, term: &ExtTerm) -> Result<(), AllocError> {

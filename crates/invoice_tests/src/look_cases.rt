@@ -7,7 +7,7 @@ use inv_terms::{
 };
 use std::alloc::Global;
 use std::test::Fail;
-use term_table::{Context, Group, Letter, ROOT, Seat, Slot, Term, letter_of};
+use term_table::{Context, DataType, Group, ROOT, Seat, Slot, Term, data_type_of};
 use test_rows::expect;
 
 fn is_found(full: &Invoice, lists: &CodeLists, e: &Entry) -> bool {
@@ -179,19 +179,19 @@ fn all_that_a_line_lacks_is_found(rt: HostRuntime) -> Result<(), Fail> {
 #[test]
 fn a_term_has_its_type() -> Result<(), Fail> {
     expect(
-        letter_of(Term { number: 2, part: 0 }) == Some(Letter::D),
+        data_type_of(Term { number: 2, part: 0 }) == Some(DataType::D),
         "BT-2",
     )?;
     expect(
-        letter_of(Term {
+        data_type_of(Term {
             number: 165,
             part: 0,
-        }) == Some(Letter::T),
+        }) == Some(DataType::T),
         "BT-165",
     )?;
-    expect(letter_of(Term { number: 4, part: 0 }).is_none(), "BT-4")?;
+    expect(data_type_of(Term { number: 4, part: 0 }).is_none(), "BT-4")?;
     expect(
-        letter_of(Term {
+        data_type_of(Term {
             number: 9999,
             part: 0,
         })

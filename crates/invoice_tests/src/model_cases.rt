@@ -2,7 +2,7 @@ use crate::building::context_of;
 use crate::texts::halves;
 use std::test::Fail;
 use term_table::{
-    Group, ListingPlace, TermRow, letter_in, list_in, place_of, row_in, row_of, term_row,
+    Group, ListingPlace, TermRow, data_type_in, list_in, place_of, row_in, row_of, term_row,
 };
 use test_rows::expect;
 
@@ -59,7 +59,7 @@ fn rows_stand_in_order() -> Result<(), Fail> {
 fn is_typed(k: usize, row: &TermRow) -> bool {
     let (outer, inner) = (row.group.outer(), row.group.inner());
     row_in(row.term, outer, inner) == Some(k)
-        && letter_in(row.term, outer, inner) == Some(row.letter)
+        && data_type_in(row.term, outer, inner) == Some(row.data_type)
         && list_in(row.term, outer, inner) == row.list
 }
 

@@ -2,7 +2,7 @@ use crate::texts::{halves, spelled};
 use inv_terms::Value;
 use std::alloc::{AllocError, Global};
 use std::test::Fail;
-use term_table::Letter;
+use term_table::DataType;
 use test_rows::{Holds, expect, expect_rows};
 
 /// The letter of a type, a string with `~` for a space and `^` for a form feed, and behind `>` how its value is
@@ -32,16 +32,16 @@ D 20240229>none
 B ~SGk=~>base64 ~SGk=~
 B ~>none";
 
-fn letter_of(word: &str) -> Letter {
+fn data_type_of(word: &str) -> DataType {
     match word {
-        "T" => Letter::T,
-        "I" => Letter::I,
-        "C" => Letter::C,
-        "A" => Letter::A,
-        "Q" => Letter::Q,
-        "P" => Letter::P,
-        "D" => Letter::D,
-        _ => Letter::B,
+        "T" => DataType::T,
+        "I" => DataType::I,
+        "C" => DataType::C,
+        "A" => DataType::A,
+        "Q" => DataType::Q,
+        "P" => DataType::P,
+        "D" => DataType::D,
+        _ => DataType::B,
     }
 }
 
@@ -69,8 +69,8 @@ fn is_wanted(value: &Value, want: &str) -> bool {
 }
 
 /// What a string gives by its type is as wanted.
-fn is_read(alloc: Global, letter: Letter, text: &str, want: &str) -> Result<bool, AllocError> {
-    match Value::read(alloc, letter, text)? {
+fn is_read(alloc: Global, data_type: DataType, text: &str, want: &str) -> Result<bool, AllocError> {
+    match Value::read(alloc, data_type, text)? {
         Some(value) => {
             let same = is_wanted(&value, want);
             drop(value);
@@ -84,11 +84,11 @@ struct Readings;
 
 impl Holds for Readings {
     fn holds(&self, alloc: Global, row: &'static str) -> Result<bool, Fail> {
-        let (letter, rest) = halves(row, ' ');
+        let (data_type, rest) = halves(row, ' ');
         let (text, want) = halves(rest, '>');
         let want = spelled(alloc, want)?;
         let text = spelled(alloc, text)?;
-        Ok(is_read(alloc, letter_of(letter), text.as_str(), want.as_str())?)
+        Ok(is_read(alloc, data_type_of(data_type), text.as_str(), want.as_str())?)
     }
 }
 
@@ -97,8 +97,8 @@ fn strings_have_values_by_type(rt: HostRuntime) -> Result<(), Fail> {
     expect_rows(rt.alloc(), &Readings, READINGS)
 }
 
-fn has_value(alloc: Global, letter: Letter, text: &str) -> Result<bool, AllocError> {
-    match Value::read(alloc, letter, text)? {
+fn has_value(alloc: Global, data_type: DataType, text: &str) -> Result<bool, AllocError> {
+    match Value::read(alloc, data_type, text)? {
         Some(value) => {
             drop(value);
             Ok(true)
@@ -109,11 +109,11 @@ fn has_value(alloc: Global, letter: Letter, text: &str) -> Result<bool, AllocErr
 
 fn are_in_limits(alloc: Global) -> Result<[bool; 5], AllocError> {
     Ok([
-        has_value(alloc, Letter::T, "\u{20AC}")?,
-        has_value(alloc, Letter::C, "\u{20AC}")?,
-        has_value(alloc, Letter::I, "\u{A0}")?,
-        has_value(alloc, Letter::T, "a\u{FFFE}")?,
-        has_value(alloc, Letter::I, "\t\r\n ")?,
+        has_value(alloc, DataType::T, "\u{20AC}")?,
+        has_value(alloc, DataType::C, "\u{20AC}")?,
+        has_value(alloc, DataType::I, "\u{A0}")?,
+        has_value(alloc, DataType::T, "a\u{FFFE}")?,
+        has_value(alloc, DataType::I, "\t\r\n ")?,
     ])
 }
 
@@ -140,10 +140,10 @@ B SGk= SGk= same";
 fn is_same_as(
     alloc: Global,
     value: &Value,
-    letter: Letter,
+    data_type: DataType,
     text: &str,
 ) -> Result<Option<bool>, AllocError> {
-    match Value::read(alloc, letter, text)? {
+    match Value::read(alloc, data_type, text)? {
         Some(other) => {
             let same = value.is_same(&other);
             drop(other);
@@ -156,13 +156,13 @@ fn is_same_as(
 /// Whether the values of two strings are the same, where both have one.
 fn are_same(
     alloc: Global,
-    letter: Letter,
+    data_type: DataType,
     first: &str,
     second: &str,
 ) -> Result<Option<bool>, AllocError> {
-    match Value::read(alloc, letter, first)? {
+    match Value::read(alloc, data_type, first)? {
         Some(value) => {
-            let same = is_same_as(alloc, &value, letter, second);
+            let same = is_same_as(alloc, &value, data_type, second);
             drop(value);
             same
         }
@@ -174,10 +174,10 @@ struct Pairs;
 
 impl Holds for Pairs {
     fn holds(&self, alloc: Global, row: &'static str) -> Result<bool, Fail> {
-        let (letter, rest) = halves(row, ' ');
+        let (data_type, rest) = halves(row, ' ');
         let (first, rest) = halves(rest, ' ');
         let (second, want) = halves(rest, ' ');
-        let same = are_same(alloc, letter_of(letter), first, second)?;
+        let same = are_same(alloc, data_type_of(data_type), first, second)?;
         Ok(same == Some(want == "same"))
     }
 }

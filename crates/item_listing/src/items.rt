@@ -11,7 +11,7 @@ ghost use Rattle.item_listing.specs.Printing.{HasOrdinals};
 ghost use Rattle.item_listing.specs.Printing as spec;
 
 use crate::codes::write_error;
-use crate::lines::{Scene, print_item};
+use crate::lines::{ListingInput, print_item};
 use inv_base::{Printer, Sink, Steps};
 use node_arena::Doc;
 use node_locations::Ordinals;
@@ -52,12 +52,12 @@ fn write_value<K: Sink, L: Ledger>(
     ensures err { OnErr result (WritesSome (flat_map (item_line (tree_nodes doc.now)) items.now) (K.view out.old) (K.view out.new)) }
 {
     let ordinals = ordinals_for(alloc, doc, items)?;
-    let scene = Scene {
+    let input = ListingInput {
         alloc,
         doc,
         ordinals: &ordinals,
     };
-    write_all_items(&scene, items, out, steps)
+    write_all_items(&input, items, out, steps)
 }
 
 /// The ordinals of a document's nodes, where a node is among the items.
@@ -98,20 +98,20 @@ fn is_node(item: &Item<'_>) -> bool
 
 /// Writes the lines one after another.
 fn write_all_items<K: Sink, L: Ledger>(
-    scene: &Scene<'_, '_>,
+    input: &ListingInput<'_, '_>,
     items: &[Item<'_>],
     out: &mut K,
     steps: &mut Steps<L>,
 ) -> Result<bool, AllocError>
-    requires within { AreWithin (length scene.now.doc.now.nodes) items.now }
-    requires ordinals { list_any meaning.is_node items.now ≡ true → HasOrdinals scene.now.doc.now scene.now.ordinals.now }
-    ensures ok { IfOk result (λ failed. Printed failed (flat_map (item_line (tree_nodes scene.now.doc.now)) items.now) (K.view out.old) (K.view out.new)) }
-    ensures err { OnErr result (WritesSome (flat_map (item_line (tree_nodes scene.now.doc.now)) items.now) (K.view out.old) (K.view out.new)) }
+    requires within { AreWithin (length input.now.doc.now.nodes) items.now }
+    requires ordinals { list_any meaning.is_node items.now ≡ true → HasOrdinals input.now.doc.now input.now.ordinals.now }
+    ensures ok { IfOk result (λ failed. Printed failed (flat_map (item_line (tree_nodes input.now.doc.now)) items.now) (K.view out.old) (K.view out.new)) }
+    ensures err { OnErr result (WritesSome (flat_map (item_line (tree_nodes input.now.doc.now)) items.now) (K.view out.old) (K.view out.new)) }
 {
     let mut printer = Printer::new();
-    let mut place = String::new(scene.alloc);
+    let mut place = String::new(input.alloc);
     'items: for item in items {
-        match print_item(scene, item, &mut place, &mut printer, out, steps) {
+        match print_item(input, item, &mut place, &mut printer, out, steps) {
             Ok(()) => {}
             Err(error) => return stopped(printer.failed, error),
         }

@@ -22,7 +22,7 @@ use xpath_items::Item;
 
 /// A document, and the ordinals of its nodes where a node is listed.
 #[derive(Clone, Copy)]
-pub(crate) struct Scene<'s, 'a> {
+pub(crate) struct ListingInput<'s, 'a> {
     pub(crate) alloc: Global,
     pub(crate) doc: &'s Doc<'a>,
     pub(crate) ordinals: &'s Option<Ordinals>,
@@ -30,19 +30,19 @@ pub(crate) struct Scene<'s, 'a> {
 
 /// Prints the line of an item. Where memory runs out, nothing of it was printed.
 pub(crate) fn print_item<K: Sink, L: Ledger>(
-    scene: &Scene<'_, '_>,
+    input: &ListingInput<'_, '_>,
     item: &Item<'_>,
     place: &mut String,
     printer: &mut Printer,
     out: &mut K,
     steps: &mut Steps<L>,
 ) -> Result<(), AllocError>
-    requires within { IsWithin (length scene.now.doc.now.nodes) item.now }
-    requires ordinals { IsTold scene.now.doc.now scene.now.ordinals.now item.now }
-    ensures { PrintsLine result (item_line (tree_nodes scene.now.doc.now) item.now) printer.old printer.new (K.view out.old) (K.view out.new) }
+    requires within { IsWithin (length input.now.doc.now.nodes) item.now }
+    requires ordinals { IsTold input.now.doc.now input.now.ordinals.now item.now }
+    ensures { PrintsLine result (item_line (tree_nodes input.now.doc.now) item.now) printer.old printer.new (K.view out.old) (K.view out.new) }
 {
     match item {
-        Item::Node(n) => return print_node(scene, *n, place, printer, out, steps),
+        Item::Node(n) => return print_node(input, *n, place, printer, out, steps),
         Item::Boolean(b) => print_boolean(*b, printer, out),
         Item::Number(number) => print_number(number, printer, out),
         Item::String(text) => print_quoted(text.as_str(), printer, out),
@@ -54,19 +54,19 @@ pub(crate) fn print_item<K: Sink, L: Ledger>(
 
 /// Prints the line of a node: its location and its quoted string.
 fn print_node<K: Sink, L: Ledger>(
-    scene: &Scene<'_, '_>,
+    input: &ListingInput<'_, '_>,
     n: NodeId,
     place: &mut String,
     printer: &mut Printer,
     out: &mut K,
     steps: &mut Steps<L>,
 ) -> Result<(), AllocError>
-    requires within { n < length scene.now.doc.now.nodes }
-    requires ordinals { HasOrdinals scene.now.doc.now scene.now.ordinals.now }
-    ensures { PrintsLine result (item_line (tree_nodes scene.now.doc.now) (items.Node n)) printer.old printer.new (K.view out.old) (K.view out.new) }
+    requires within { n < length input.now.doc.now.nodes }
+    requires ordinals { HasOrdinals input.now.doc.now input.now.ordinals.now }
+    ensures { PrintsLine result (item_line (tree_nodes input.now.doc.now) (items.Node n)) printer.old printer.new (K.view out.old) (K.view out.new) }
 {
-    locate(scene.doc, scene.ordinals, n, place)?;
-    let string = scene.doc.string(scene.alloc, n, steps)?;
+    locate(input.doc, input.ordinals, n, place)?;
+    let string = input.doc.string(input.alloc, n, steps)?;
     print_placed(place.as_str(), string.as_str(), printer, out);
     Ok(())
 }

@@ -12,7 +12,7 @@ use Rattle.bind_rows.specs.Same.{same_leaf}
 use Rattle.bind_table.specs.declared.lines.Line.{Line}
 use Rattle.bind_table.specs.Lines.{Plan, Cell, nothing, a_line, flat, numbers, plan_of}
 use Rattle.bind_table.specs.Laid.{element_numbers, are_distinct, end_apart, all_end_apart, is_ncname, is_declared}
-use Rattle.bind_table.specs.Laid.{is_writable_leaf, all_writable, is_laid_plan, is_laid}
+use Rattle.bind_table.specs.Laid.{is_writable_leaf, all_writable, is_writable_plan, is_writable}
 use Rattle.bind_write.specs.Holding.{AreCellsOf, HasRows}
 use Rattle.bind_write.proofs.PlanLemmas.{table_rows}
 use Rattle.laid_tables.specs.Lines.{line_numbers, end_alike, rows_end_apart, line_ends_apart, ends_writably, is_writable_line, are_laid}
@@ -90,7 +90,7 @@ whole-inside xs = eq-eqb (length xs) (length (xs ++ [])) (grind (arith, common_s
 shorter-inside : (xs : List Line) (y : Line) (ys : List Line) → (length xs == length (xs ++ y ∷ ys)) ≡ false
 shorter-inside xs y ys = ne_eqb (length xs) (length (xs ++ y ∷ ys)) (λ e. grind (arith, common_steps))
 
-laid-lines : (rows : List Row) (plan : Plan) → HasRows rows plan → are_laid rows (flat plan) ≡ is_laid_plan plan
+laid-lines : (rows : List Row) (plan : Plan) → HasRows rows plan → are_laid rows (flat plan) ≡ is_writable_plan plan
 laid-lines rows nothing h = refl
 laid-lines rows (a_line s cells inside (a_line t cells' inside' rest)) h =
     let all : List Line = flat (a_line s cells inside (a_line t cells' inside' rest)) in
@@ -112,5 +112,5 @@ laid-lines rows (a_line s cells inside nothing) h =
     append-nothing n (m ∷ ns) = ap (λ x. n ∷ x) (append-nothing m ns)
 
 -- a table's own lines
-pub laid-table : (rows : List Row) (lines : List Line) → lines ≡ flat (plan_of rows) → are_laid rows lines ≡ is_laid rows
+pub laid-table : (rows : List Row) (lines : List Line) → lines ≡ flat (plan_of rows) → are_laid rows lines ≡ is_writable rows
 laid-table rows lines e = ap (are_laid rows) e ∙ laid-lines rows (plan_of rows) (table_rows rows)

@@ -1,7 +1,7 @@
 //! Whether a table is laid, and has no note with a code in an attribute.
 ghost use Rattle.std.specs.Prelude.{◌≡◌, ◌&&◌, IfOk};
 ghost use Rattle.std.specs.List.{list_all};
-ghost use Rattle.bind_table.specs.Laid.{is_laid};
+ghost use Rattle.bind_table.specs.Laid.{is_writable};
 ghost use Rattle.bind_table.specs.Lines.{plan_of, flat};
 ghost use Rattle.bind_write.specs.Sources.{has_plain_attribute};
 ghost use Rattle.laid_tables.specs.Lines as spec;
@@ -79,7 +79,7 @@ fn have_plain_attributes(rows: &[Row]) -> bool
 /// at one place, the names can be written, and no note with a subject code stands in an attribute. These are the
 /// conditions of `write` and `measure` (bind_write).
 pub fn can_be_written(alloc: Global, table: &Binding) -> Result<bool, AllocError>
-    ensures { IfOk result (λ answer. answer ≡ (is_laid table.now && list_all has_plain_attribute table.now)) }
+    ensures { IfOk result (λ answer. answer ≡ (is_writable table.now && list_all has_plain_attribute table.now)) }
 {
     if are_laid(alloc, table, table.lines())? {
         Ok(have_plain_attributes(table.rows()))

@@ -17,7 +17,7 @@ use Rattle.bind_meaning.specs.Terms.{firsts_behind, entry_of, seat_of_entry, put
 use Rattle.reading_laws.proofs.ListLemmas.{any-append, each-flat, or-left, or-right}
 
 abbrev pub entry_at : Told → Value → Entry
-entry_at t value = record { context = context_of t.placed; term = t.said.term; value = value }
+entry_at t value = record { context = context_of t.placed; term = t.parsed.term; value = value }
 
 -- ---- of each
 
@@ -44,13 +44,13 @@ each-listed P (e ∷ es) all = each-put P e (listed es) all.0 (each-listed P es 
 
 -- it holds of the entry that the told makes
 abbrev pub OfEntry : (Entry → Type 0) → Told → Type 0
-OfEntry P t = (value : Value) → t.said.value ≡ Some value → P (entry_at t value)
+OfEntry P t = (value : Value) → t.parsed.value ≡ Some value → P (entry_at t value)
 
 pub each-entry : (P : Entry → Type 0) (t : Told) → OfEntry P t → AllByRecursion P (entry_of t)
-each-entry P t h = go t.said.value refl
+each-entry P t h = go t.parsed.value refl
   where
-    go : (o : Option Value) → t.said.value ≡ o
-        → AllByRecursion P (elim o [ None ↦ [] | Some value ↦ record { context = context_of t.placed; term = t.said.term; value = value } ∷ [] ])
+    go : (o : Option Value) → t.parsed.value ≡ o
+        → AllByRecursion P (elim o [ None ↦ [] | Some value ↦ record { context = context_of t.placed; term = t.parsed.term; value = value } ∷ [] ])
     go None e = tt
     go (Some value) e = (h value e, tt)
 
@@ -62,19 +62,19 @@ of-entries P ts h =
 -- ---- the same seats
 
 abbrev pub HasValue : Told → Type 0
-HasValue t = is_some t.said.value ≡ true
+HasValue t = is_some t.parsed.value ≡ true
 
 -- its term has such a context
 abbrev pub HasPlace : Told → Type 0
 HasPlace t = is_some (seat_place (seat_of t)) ≡ true
 
 pub seat-is : (a t : Told) → is_of_seat a t ≡ true → seat_of a ≡ seat_of t
-seat-is a t h = go (same_term a.said.term t.said.term) refl h
+seat-is a t h = go (same_term a.parsed.term t.parsed.term) refl h
   where
-    go : (b : Bool) → same_term a.said.term t.said.term ≡ b
+    go : (b : Bool) → same_term a.parsed.term t.parsed.term ≡ b
         → (elim b [ true ↦ same_context (context_of a.placed) (context_of t.placed) | false ↦ false ]) ≡ true → seat_of a ≡ seat_of t
     go true e l =
-        let term : a.said.term ≡ t.said.term = same_term_is a.said.term t.said.term e in
+        let term : a.parsed.term ≡ t.parsed.term = same_term_is a.parsed.term t.parsed.term e in
         let context : context_of a.placed ≡ context_of t.placed = context_is (context_of a.placed) (context_of t.placed) l in
         λ i. record { term = term i; context = context i }
     go false e l = absurd (false≢true l)
@@ -126,10 +126,10 @@ module _ (q : Seat → Bool) where
   entries-there : (ts : List Told) → AllByRecursion HasValue ts → any_entry (flat_map entry_of ts) ≡ any_told ts
   unfolding any_entry any_told
   entries-there [] v = refl
-  entries-there (t ∷ ts) v = go t.said.value v.0 (entries-there ts v.1)
+  entries-there (t ∷ ts) v = go t.parsed.value v.0 (entries-there ts v.1)
     where
       go : (o : Option Value) → is_some o ≡ true → any_entry (flat_map entry_of ts) ≡ any_told ts
-          → any_entry ((elim o [ None ↦ [] | Some value ↦ record { context = context_of t.placed; term = t.said.term; value = value } ∷ [] ])
+          → any_entry ((elim o [ None ↦ [] | Some value ↦ record { context = context_of t.placed; term = t.parsed.term; value = value } ∷ [] ])
           ++ flat_map entry_of ts) ≡ any_told (t ∷ ts)
       go None k f = absurd (false≢true k)
       go (Some value) k f = ap (λ b. q (seat_of t) || b) f

@@ -6,7 +6,7 @@ use Rattle.std.proofs.lemmas.Bool.{false≢true}
 use Rattle.inv_base.specs.Tree.{Node}
 use Rattle.code_lists.specs.CodeFiles.{Lists}
 use Rattle.inv_terms.specs.declared.entries.Entry.{Entry}
-use Rattle.inv_terms.specs.declared.lacks.Name.TheVariants as names
+use Rattle.inv_terms.specs.declared.violations.Name.TheVariants as names
 use Rattle.bind_rows.specs.declared.rows.Row.{Row}
 use Rattle.bind_meaning.specs.declared.fault.BindFault.{BindFault}
 use Rattle.bind_meaning.specs.declared.fault.BindKind.{BindKind}
@@ -42,14 +42,14 @@ module _ (nodes : List Node) (lists : Lists) (c : Currencies) where
   fine before t h =
       let all = all-false (causes nodes lists c before t) (go (first_cause (causes nodes lists c before t)) h) in
       record {
-        value = not-not (is_some t.said.value) (neither (is_none t.said.value) (breaks nodes t.placed.pick.row.check t.placed.pick.node) all.1.1.0).0;
+        value = not-not (is_some t.parsed.value) (neither (is_none t.parsed.value) (breaks nodes t.placed.pick.row.check t.placed.pick.node) all.1.1.0).0;
         allowed = all.1.1.1.0;
       }
     where
       go : (o : Option BindKind)
           → ◌≡◌ {A = List Found} (elim o [
             | None ↦ []
-            | Some kind ↦ found (place_at t.placed.pick kind) kind (names.Term t.said.term) t.placed.pick.node ∷ []
+            | Some kind ↦ found (place_at t.placed.pick kind) kind (names.Term t.parsed.term) t.placed.pick.node ∷ []
           ]) []
           → o ≡ None
       go None k = refl

@@ -13,9 +13,9 @@ use Rattle.bind_rows.specs.declared.rows.Form.{Form}
 use Rattle.bind_meaning.specs.Elements.{string_at}
 use Rattle.bind_meaning.specs.Seats.{Placed, context_of}
 use Rattle.bind_meaning.specs.Judging.{Told}
-use Rattle.bind_meaning.specs.Values.{said}
+use Rattle.bind_meaning.specs.Values.{parsed}
 use Rattle.bind_meaning.specs.Terms.{Read, told, terms_of}
-use Rattle.reading_laws.specs.Sayings.{FitsIts, AllFit}
+use Rattle.reading_laws.specs.ParsedValues.{FitsIts, AllFit}
 use Rattle.reading_laws.proofs.ListLemmas.{each-weaker, each-any, each-of-all, all-of-each}
 use Rattle.reading_laws.proofs.SayingLemmas.{of-told}
 use Rattle.reading_laws.proofs.EntryLemmas.{OfEntry, of-entries}
@@ -27,11 +27,11 @@ FitsEntry e = Fits e.term e.value
 abbrev AnyPlaced : Placed → Type 0
 AnyPlaced p = Unit {0}
 
-module _ (fits : (form : Form) (term : Term) (string : List ℕ) → AllFit (said form term string)) where
-  told-fit : (nodes : List Node) (ps : List Placed) → AllByRecursion (λ t. FitsIts t.said) (told nodes ps)
+module _ (fits : (form : Form) (term : Term) (string : List ℕ) → AllFit (parsed form term string)) where
+  told-fit : (nodes : List Node) (ps : List Placed) → AllByRecursion (λ t. FitsIts t.parsed) (told nodes ps)
   told-fit nodes ps =
-      of-told (λ t. FitsIts t.said) AnyPlaced nodes
-      (λ p term k e. each-of-all FitsIts (said p.pick.row.form term (string_at nodes p.pick.node)) (fits p.pick.row.form term (string_at nodes p.pick.node)))
+      of-told (λ t. FitsIts t.parsed) AnyPlaced nodes
+      (λ p term k e. each-of-all FitsIts (parsed p.pick.row.form term (string_at nodes p.pick.node)) (fits p.pick.row.form term (string_at nodes p.pick.node)))
       ps (each-any AnyPlaced (λ p. tt) ps)
 
   pub entries-fit : (nodes : List Node) (rows : List Row) (lists : Lists) (read : Read) → terms_of nodes rows lists ≡ Ok read
@@ -41,7 +41,7 @@ module _ (fits : (form : Form) (term : Term) (string : List ℕ) → AllFit (sai
       let ts = told nodes (places_in nodes rows) in
       all-of-each FitsEntry read.entries
       (subst (AllByRecursion FitsEntry) (sym r.entries_are)
-      (of-entries FitsEntry ts (each-weaker (λ t. FitsIts t.said) (OfEntry FitsEntry) (λ t k value e. k value e) ts (told-fit nodes (places_in nodes rows)))))
+      (of-entries FitsEntry ts (each-weaker (λ t. FitsIts t.parsed) (OfEntry FitsEntry) (λ t k value e. k value e) ts (told-fit nodes (places_in nodes rows)))))
 
 -- ---- codes
 
@@ -49,7 +49,7 @@ abbrev pub IsAllowed : Lists → Entry → Type 0
 IsAllowed lists e = is_unlisted lists e ≡ false
 
 code-allowed : (lists : Lists) (t : Told) → IsFine lists t → OfEntry (IsAllowed lists) t
-code-allowed lists t fine value e = sym (ap (λ o. is_outside lists (list_of t.said.term (context_of t.placed)) (option_and_then code_in o)) e) ∙ fine.allowed
+code-allowed lists t fine value e = sym (ap (λ o. is_outside lists (list_of t.parsed.term (context_of t.placed)) (option_and_then code_in o)) e) ∙ fine.allowed
 
 pub each-allowed : (nodes : List Node) (rows : List Row) (lists : Lists) (es : List Entry) → IsReadOf nodes rows lists es → AllByRecursion (IsAllowed lists) es
 each-allowed nodes rows lists es r =

@@ -12,8 +12,8 @@ use Rattle.bind_rows.specs.declared.rows.Row.{Row}
 use Rattle.bind_table.specs.WellFormed.{first_fault}
 use Rattle.ubl_binding.specs.Tables.{invoice_rows, credit_note_rows}
 use Rattle.cii_binding.specs.Table.{cii_rows}
-use Rattle.bind_rows.specs.declared.tables.Which.{Which}
-use Rattle.bind_rows.specs.declared.tables.Which.TheVariants as which
+use Rattle.bind_rows.specs.declared.tables.DocumentType.{DocumentType}
+use Rattle.bind_rows.specs.declared.tables.DocumentType.TheVariants as document_type
 use Rattle.bind_meaning.specs.Tables.{rows_of}
 use Rattle.bind_meaning.specs.Currencies.{currencies}
 use Rattle.bind_meaning.specs.Terms.{Read, told, term_picks, entries, terms_of}
@@ -82,16 +82,16 @@ module _ (fit : (nodes : List Node) (rows : List Row) (lists : Lists) (read : Re
   )
 
   module _ (invoice : first_fault invoice_rows ≡ Ok tt) (credit_note : first_fault credit_note_rows ≡ Ok tt) (cii : first_fault cii_rows ≡ Ok tt) where
-    formed : (table : Which) → first_fault (rows_of table) ≡ Ok tt
-    formed which.Invoice = invoice
-    formed which.CreditNote = credit_note
-    formed which.Cii = cii
+    formed : (table : DocumentType) → first_fault (rows_of table) ≡ Ok tt
+    formed document_type.Invoice = invoice
+    formed document_type.CreditNote = credit_note
+    formed document_type.Cii = cii
 
-    pub table-read : (table : Which) (nodes : List Node) (lists : Lists) (read : Read) → Rise 0 nodes → terms_of nodes (rows_of table) lists ≡ Ok read
+    pub table-read : (table : DocumentType) (nodes : List Node) (lists : Lists) (read : Read) → Rise 0 nodes → terms_of nodes (rows_of table) lists ≡ Ok read
         → IsInvoice read.entries × IsValid read.entries lists
     table-read table nodes lists read rise h = read-invoice nodes (rows_of table) lists read rise (formed table) h
 
-    pub document-read : (table : Which) (document : Document) (lists : Lists) (read : Read) → IsOfATree document
+    pub document-read : (table : DocumentType) (document : Document) (lists : Lists) (read : Read) → IsOfATree document
         → terms_of (tree_nodes document) (rows_of table) lists ≡ Ok read
         → IsInvoice read.entries × IsValid read.entries lists
     document-read table document lists read tree h = table-read table (tree_nodes document) lists read (document-rises document tree) h

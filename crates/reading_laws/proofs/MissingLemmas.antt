@@ -17,13 +17,13 @@ use Rattle.term_table.specs.SemanticModel.{same_term, terms}
 use Rattle.term_table.specs.Groups.{parent_of, occurrence_of}
 use Rattle.term_table.specs.Contexts.{has_context, is_inside}
 use Rattle.term_table.specs.Places.{first_row, place}
-use Rattle.inv_terms.specs.declared.lacks.Name.TheVariants as names
-use Rattle.inv_terms.specs.declared.lacks.TermFault.TheVariants as faults
+use Rattle.inv_terms.specs.declared.violations.Name.TheVariants as names
+use Rattle.inv_terms.specs.declared.violations.TermFault.TheVariants as faults
 use Rattle.inv_terms.specs.Lacking.{is_at, has, has_term, is_around, shows_its_group, stands, decided, first_decided, is_there, whole_term, is_needed}
 use Rattle.inv_terms.specs.Lacking.{is_missing, is_slot_in, is_at_least_once, lacks_group, missing_at, first_missing, all_missing_from, all_missing}
 use Rattle.inv_terms.proofs.AllLemmas.{first-is}
 use Rattle.bind_meaning.specs.Seats.{Room}
-use Rattle.bind_meaning.specs.Faults.{lack_found, lacks_in}
+use Rattle.bind_meaning.specs.Faults.{violation_found, violations_in}
 
 -- No test tells them apart by whether some seat passes.
 abbrev pub AreAlike : List Seat → List Seat → Type 0
@@ -76,8 +76,8 @@ module _ (xs ys : List Seat) (alike : AreAlike xs ys) (context : Context) where
   missing-same row =
       ap (λ b. b && not (has xs context row.term)) (needed-by row.mark row.group row.term) ∙ ap (λ b. is_needed ys context row && not b) (has-same row.term)
 
-  lacks-same : (k : ℕ) (row : TermRow) → lacks_group xs context k row ≡ lacks_group ys context k row
-  lacks-same k row =
+  violations-same : (k : ℕ) (row : TermRow) → lacks_group xs context k row ≡ lacks_group ys context k row
+  violations-same k row =
       ap (λ b. is_at_least_once (occurrence_of row.group) && ((k == first_row row.group) && (has_context (parent_of row.group) context && not b)))
       (alike (λ (s : Seat). is_slot_in row.group s.context.outer || is_slot_in row.group s.context.inner))
 
@@ -86,7 +86,7 @@ module _ (xs ys : List Seat) (alike : AreAlike xs ys) (context : Context) where
       ap (λ b. if has_context row.group context then (if b then Some (names.Term row.term) else None) else
       (if lacks_group xs context k row then Some (names.Group row.group) else None)) (missing-same row)
       ∙ ap (λ b. if has_context row.group context then (if is_missing ys context row then Some (names.Term row.term) else None) else
-      (if b then Some (names.Group row.group) else None)) (lacks-same k row)
+      (if b then Some (names.Group row.group) else None)) (violations-same k row)
 
   from-same : (k : ℕ) (rows : List TermRow) → all_missing_from xs context k rows ≡ all_missing_from ys context k rows
   from-same k [] = refl
@@ -116,16 +116,16 @@ any-filter p q (x ∷ xs) = go (q x) (any-filter p q xs)
 filtered-alike : (q : Seat → Bool) (xs ys : List Seat) → AreAlike xs ys → AreAlike (filter q xs) (filter q ys)
 filtered-alike q xs ys alike p = any-filter p q xs ∙ (alike (λ x. q x && p x) ∙ sym (any-filter p q ys))
 
-pub room-same : (nodes : List Node) (xs ys : List Seat) (room : Room) → AreAlike xs ys → lacks_in nodes xs room ≡ lacks_in nodes ys room
+pub room-same : (nodes : List Node) (xs ys : List Seat) (room : Room) → AreAlike xs ys → violations_in nodes xs room ≡ violations_in nodes ys room
 room-same nodes xs ys room alike =
-    ap (map (lack_found nodes room)) (all-same _ _ (filtered-alike (λ (seat : Seat). is_inside room.context seat.context) xs ys alike) room.context)
+    ap (map (violation_found nodes room)) (all-same _ _ (filtered-alike (λ (seat : Seat). is_inside room.context seat.context) xs ys alike) room.context)
 
 pub rooms-same : (nodes : List Node) (xs ys : List Seat) (rooms : List Room) → AreAlike xs ys
-    → flat_map (lacks_in nodes xs) rooms ≡ flat_map (lacks_in nodes ys) rooms
+    → flat_map (violations_in nodes xs) rooms ≡ flat_map (violations_in nodes ys) rooms
 rooms-same nodes xs ys [] alike = refl
 rooms-same nodes xs ys (room ∷ rooms) alike =
-    ap (λ l. l ++ flat_map (lacks_in nodes xs) rooms) (room-same nodes xs ys room alike)
-    ∙ ap (λ l. lacks_in nodes ys room ++ l) (rooms-same nodes xs ys rooms alike)
+    ap (λ l. l ++ flat_map (violations_in nodes xs) rooms) (room-same nodes xs ys room alike)
+    ∙ ap (λ l. violations_in nodes ys room ++ l) (rooms-same nodes xs ys rooms alike)
 
 -- ---- of a list of things that have seats
 

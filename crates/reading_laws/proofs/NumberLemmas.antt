@@ -25,13 +25,13 @@ use Rattle.bind_meaning.specs.Elements.{string_at}
 use Rattle.bind_meaning.specs.Picks.{Pick, term_in, carrier_in}
 use Rattle.bind_meaning.specs.Seats.{Placed, placed, context_of, slot_of, listed, is_of_outer, is_of_inner, is_inside_of, outer_elements, inner_elements}
 use Rattle.bind_meaning.specs.Seats.{place_among, outer_at, inner_at, inner_within}
-use Rattle.bind_meaning.specs.Values.{Said, said}
-use Rattle.bind_meaning.specs.Judging.{Told, told_by, said_by}
+use Rattle.bind_meaning.specs.Values.{ParsedValue, parsed}
+use Rattle.bind_meaning.specs.Judging.{Told, told_by, parsed_by}
 use Rattle.bind_meaning.specs.Terms.{told, place_all, entries}
 use Rattle.reading_laws.specs.Nodes.{Rise}
 use Rattle.reading_laws.proofs.ListLemmas.{both, and-true, or-right, any-map, any-here, any-of-flat, each-map, each-unmap, each-weaker, each-filter}
 use Rattle.reading_laws.proofs.ListLemmas.{each-passes, each-both, tests-each, tests-hold}
-use Rattle.reading_laws.proofs.SayingLemmas.{of-said, of-placed}
+use Rattle.reading_laws.proofs.SayingLemmas.{of-parsed, of-placed}
 use Rattle.reading_laws.proofs.EntryLemmas.{HasValue, OfEntry, of-entries, seats-same}
 use Rattle.bind_table.specs.Sound.{IsSoundRow}
 use Rattle.reading_laws.proofs.RowLemmas.{IsPickOf}
@@ -63,11 +63,11 @@ known-outer row term inner h e =
 
 -- ---- each pick says something
 
-abbrev Full : List Said → Type 0
+abbrev Full : List ParsedValue → Type 0
 Full all = list_any (λ s. true) all ≡ true
 
-said-full : (form : Form) (term : Term) (string : List ℕ) → Full (said form term string)
-said-full form term string = of-said Full term (λ value. refl) (λ e text code. refl) form string
+parsed-full : (form : Form) (term : Term) (string : List ℕ) → Full (parsed form term string)
+parsed-full form term string = of-parsed Full term (λ value. refl) (λ e text code. refl) form string
 
 -- ---- so where a pick stands something is told
 
@@ -86,10 +86,11 @@ module _ (nodes : List Node) (picks : List Pick) where
   told-there : (p : Placed) (term : Term) → term_in p.pick.row.content ≡ Some term → (q : Context → Bool) → q (context_of p) ≡ true
       → list_any (λ t. q (context_of t.placed)) (told_by nodes p) ≡ true
   told-there p term e q h =
-      any-map (λ s. record { placed = p; said = s }) (λ t. q (context_of t.placed)) (said_by nodes p)
-      ∙ (ap (λ b. list_any (λ (s : Said). b) (said_by nodes p)) h
-      ∙ (ap (λ (o : Option Term). list_any (λ (s : Said). true) (elim o [ None ↦ [] | Some t ↦ said p.pick.row.form t (string_at nodes p.pick.node) ])) e
-      ∙ said-full p.pick.row.form term (string_at nodes p.pick.node)))
+      any-map (λ s. record { placed = p; parsed = s }) (λ t. q (context_of t.placed)) (parsed_by nodes p)
+      ∙ (ap (λ b. list_any (λ (s : ParsedValue). b) (parsed_by nodes p)) h
+      ∙ (ap (λ (o : Option Term). list_any (λ (s : ParsedValue). true) (elim o [ None ↦ [] | Some t ↦ parsed p.pick.row.form t (string_at nodes p.pick.node)
+          ])) e
+      ∙ parsed-full p.pick.row.form term (string_at nodes p.pick.node)))
 
   all-tell : (R : Row → Type 0) → AllByRecursion (IsPickOf R) picks → AllByRecursion Tells picks
   all-tell R h =

@@ -126,10 +126,10 @@ apart-told t u h k other = go (seat_place (seat_of t)) (seat_place (seat_of u)) 
 
 told-rises : (ts : List Told) → AllByRecursion HasPlace ts → EachPair ts → Rises (listed (flat_map entry_of ts))
 told-rises [] h pairs = tt
-told-rises (t ∷ ts) h pairs = go t.said.value (told-rises ts h.1 pairs.1)
+told-rises (t ∷ ts) h pairs = go t.parsed.value (told-rises ts h.1 pairs.1)
   where
     go : (o : Option Value) → Rises (listed (flat_map entry_of ts))
-        → Rises (listed ((elim o [ None ↦ [] | Some value ↦ record { context = context_of t.placed; term = t.said.term; value = value } ∷ [] ])
+        → Rises (listed ((elim o [ None ↦ [] | Some value ↦ record { context = context_of t.placed; term = t.parsed.term; value = value } ∷ [] ])
         ++ flat_map entry_of ts))
     go None r = r
     go (Some value) r =

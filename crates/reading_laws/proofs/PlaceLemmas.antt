@@ -27,11 +27,11 @@ use Rattle.bind_table.specs.WellFormed.{is_placed, is_carried, is_carried_once, 
 use Rattle.bind_meaning.specs.Elements.{string_at}
 use Rattle.bind_meaning.specs.Picks.{Pick, term_in, carrier, carrier_in}
 use Rattle.bind_meaning.specs.Seats.{placed, context_of, slot_of, outer_at, inner_at, inner_within}
-use Rattle.bind_meaning.specs.Values.{Said, said, note, subject_code}
+use Rattle.bind_meaning.specs.Values.{ParsedValue, parsed, note, subject_code}
 use Rattle.bind_meaning.specs.Terms.{told, place_all}
 use Rattle.reading_laws.proofs.ListLemmas.{both, each-map, each-weaker}
 use Rattle.reading_laws.proofs.EntryLemmas.{HasPlace}
-use Rattle.reading_laws.proofs.SayingLemmas.{of-said, of-told}
+use Rattle.reading_laws.proofs.SayingLemmas.{of-parsed, of-told}
 use Rattle.bind_table.specs.Sound.{is_unplaced, IsSoundRow}
 use Rattle.reading_laws.proofs.RowLemmas.{IsPickOf}
 
@@ -125,12 +125,12 @@ code-known row h =
 
 -- ---- so all that a row says has its context
 
-abbrev AllKnown : Row → List Said → Type 0
+abbrev AllKnown : Row → List ParsedValue → Type 0
 AllKnown row all = AllByRecursion (λ s. IsKnown row s.term) all
 
-said-known : (row : Row) (form : Form) (term : Term) (string : List ℕ) → IsKnown row term → AllKnown row (said form term string)
-said-known row form term string k =
-    of-said (AllKnown row) term (λ value. (k, tt))
+parsed-known : (row : Row) (form : Form) (term : Term) (string : List ℕ) → IsKnown row term → AllKnown row (parsed form term string)
+parsed-known row form term string k =
+    of-parsed (AllKnown row) term (λ value. (k, tt))
     (λ e text code. (let h : IsKnown row note = subst (IsKnown row) e k in (h, (code-known row h, tt)))) form string
 
 module _ (rows : List Row) (nodes : List Node) (picks : List Pick) where
@@ -196,11 +196,11 @@ module _ (rows : List Row) (nodes : List Node) (picks : List Pick) where
       (λ p term w e.
       let s = w.0 in
       let g = has-groups p.pick term s e in
-      each-weaker (λ x. IsKnown p.pick.row x.term) (λ x. HasPlace (record { placed = p; said = x }))
+      each-weaker (λ x. IsKnown p.pick.row x.term) (λ x. HasPlace (record { placed = p; parsed = x }))
       (λ x k. subst (λ q. is_some (seat_place (record { term = x.term; context = context_of q })) ≡ true) (sym w.1)
       (placed-by x.term (context_of (placed nodes picks p.pick)) p.pick.row.outer p.pick.row.inner g.outer g.inner k))
-      (said p.pick.row.form term (string_at nodes p.pick.node))
-      (said-known p.pick.row p.pick.row.form term (string_at nodes p.pick.node) (known-in p.pick.row term p.pick.row.content s.row.known e)))
+      (parsed p.pick.row.form term (string_at nodes p.pick.node))
+      (parsed-known p.pick.row p.pick.row.form term (string_at nodes p.pick.node) (known-in p.pick.row term p.pick.row.content s.row.known e)))
       (place_all nodes picks)
       (each-map (λ p. IsPickOf (IsSoundRow rows) p.pick × (p ≡ placed nodes picks p.pick)) (placed nodes picks) picks
       (each-weaker (IsPickOf (IsSoundRow rows)) (λ pick. IsPickOf (IsSoundRow rows) pick × (placed nodes picks pick ≡ placed nodes picks pick))

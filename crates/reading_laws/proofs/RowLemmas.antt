@@ -7,7 +7,7 @@ use Rattle.bind_rows.specs.declared.rows.Row.{Row}
 use Rattle.bind_rows.specs.declared.rows.Step.{Step}
 use Rattle.bind_meaning.specs.Elements.{met}
 use Rattle.bind_meaning.specs.Picks.{Pick, ways, last_of, leaves_of, picks_of_way, nodes_picked, has_any_term, Numbered, numbered, rows_where, all_picked}
-use Rattle.bind_meaning.specs.Picks.{is_filler, without_fillers}
+use Rattle.bind_meaning.specs.Picks.{is_placeholder, without_placeholders}
 use Rattle.bind_meaning.specs.Currencies.{Currencies, is_in_its_currency, in_their_currencies}
 use Rattle.bind_meaning.specs.Terms.{term_picks}
 use Rattle.reading_laws.proofs.ListLemmas.{each-map, each-flat, each-weaker, each-filter, each-passes, each-both, each-any}
@@ -52,10 +52,10 @@ module _ (nodes : List Node) where
         (λ r w. row-picks r.place r.row w.0 w.1) (filter termed (numbered 1 rows))
         (each-both (λ (r : Numbered). R r.row) (λ (r : Numbered). has_any_term r.row ≡ true) (filter termed (numbered 1 rows))
         (each-filter (λ (r : Numbered). R r.row) termed (numbered 1 rows) (numbered-rows 1 rows h)) (each-passes termed (numbered 1 rows))) in
-        let kept : AllByRecursion (IsPickOf R) (in_their_currencies nodes c (without_fillers nodes all)) =
-        each-filter (IsPickOf R) (is_in_its_currency nodes c) (without_fillers nodes all)
-        (each-filter (IsPickOf R) (λ pick. not (is_filler nodes all pick)) all each) in
+        let kept : AllByRecursion (IsPickOf R) (in_their_currencies nodes c (without_placeholders nodes all)) =
+        each-filter (IsPickOf R) (is_in_its_currency nodes c) (without_placeholders nodes all)
+        (each-filter (IsPickOf R) (λ pick. not (is_placeholder nodes all pick)) all each) in
         each-flat (IsPickOf R) (λ (node : Node). Unit {0})
-        (λ (node : Node). filter (λ (pick : Pick). pick.node == node.number) (in_their_currencies nodes c (without_fillers nodes all)))
-        (λ node u. each-filter (IsPickOf R) (λ (pick : Pick). pick.node == node.number) (in_their_currencies nodes c (without_fillers nodes all)) kept)
+        (λ (node : Node). filter (λ (pick : Pick). pick.node == node.number) (in_their_currencies nodes c (without_placeholders nodes all)))
+        (λ node u. each-filter (IsPickOf R) (λ (pick : Pick). pick.node == node.number) (in_their_currencies nodes c (without_placeholders nodes all)) kept)
         nodes (each-any (λ (node : Node). Unit {0}) (λ node. tt) nodes)

@@ -12,11 +12,11 @@ use Rattle.inv_base.specs.Characters.{is_char, is_white_space}
 use Rattle.inv_decimal.specs.CivilDay.{CivilDay, IsDay}
 use Rattle.inv_decimal.specs.Digits.{last_digits}
 use Rattle.inv_decimal.specs.WrittenDay.{read_plain_day, read_dashed_day, dashed_day_text}
-use Rattle.term_table.specs.declared.terms.Letter.{Letter}
-use Rattle.term_table.specs.declared.terms.Letter.TheVariants as letters
+use Rattle.term_table.specs.declared.terms.DataType.{DataType}
+use Rattle.term_table.specs.declared.terms.DataType.TheVariants as data_types
 use Rattle.term_table.specs.declared.terms.Term.{Term}
 use Rattle.term_table.specs.SemanticModel.{terms, is_extension}
-use Rattle.term_table.specs.Rows.{is_base64, HasType, modelled, added, letter_of}
+use Rattle.term_table.specs.Rows.{is_base64, HasType, modelled, added, data_type_of}
 use Rattle.term_table.proofs.GroupLemmas.{both}
 use Rattle.inv_terms.specs.declared.values.Value.{Value}
 use Rattle.inv_terms.specs.declared.values.Value.TheVariants as values
@@ -25,35 +25,35 @@ use Rattle.inv_terms.specs.Values.{is_blank, trimmed, value_of}
 use Rattle.inv_terms.proofs.TrimLemmas.{HasEnds, trimmed-between}
 use Rattle.bind_rows.specs.declared.rows.Form.{Form}
 use Rattle.bind_rows.specs.declared.rows.Form.TheVariants as forms
-use Rattle.bind_meaning.specs.Values.{Said, by_type, plain_date, Image, images, image_among, due_date_type, subject_code, note, plain_note, coded}
-use Rattle.bind_meaning.specs.Values.{is_subject_character, note_behind, note_of, is_term, is_day, suits, said_in, said}
-use Rattle.reading_laws.specs.Sayings.{FitsIts, AllFit}
+use Rattle.bind_meaning.specs.Values.{ParsedValue, by_type, plain_date, Image, images, image_among, due_date_type, subject_code, note, plain_note, coded}
+use Rattle.bind_meaning.specs.Values.{is_subject_character, note_behind, note_of, is_term, is_day, suits, parsed_in, parsed}
+use Rattle.reading_laws.specs.ParsedValues.{FitsIts, AllFit}
 
 same-number : (a b : ℕ) → (a == b) ≡ true → a ≡ b
 same-number a b h = grind (arith, nat_tests)
 
 -- ---- by the type of the term
 
-reads-by : (term : Term) (string : List ℕ) (value : Value) (letter : Option Letter) → letter_of term ≡ letter
-    → option_and_then (λ l. value_of l string) letter ≡ Some value → Fits term value
+reads-by : (term : Term) (string : List ℕ) (value : Value) (data_type : Option DataType) → data_type_of term ≡ data_type
+    → option_and_then (λ l. value_of l string) data_type ≡ Some value → Fits term value
 reads-by term string value None e h = absurd (let k : None ≡ Some value = h in cc)
-reads-by term string value (Some letter) e h = record { letter = letter; text = string; typed = modelled e; read = h }
+reads-by term string value (Some data_type) e h = record { data_type = data_type; text = string; typed = modelled e; read = h }
 
 by_type-fits : (term : Term) (string : List ℕ) (value : Value) → by_type term string ≡ Some value → Fits term value
-by_type-fits term string value h = reads-by term string value (letter_of term) refl h
+by_type-fits term string value h = reads-by term string value (data_type_of term) refl h
 
 -- ---- dates
 
-date-is : (letter : Option Letter) → is_day letter ≡ true → letter ≡ Some letters.D
-date-is (Some letters.D) h = refl
+date-is : (data_type : Option DataType) → is_day data_type ≡ true → data_type ≡ Some data_types.D
+date-is (Some data_types.D) h = refl
 date-is None h = absurd (false≢true h)
-date-is (Some letters.T) h = absurd (false≢true h)
-date-is (Some letters.I) h = absurd (false≢true h)
-date-is (Some letters.C) h = absurd (false≢true h)
-date-is (Some letters.A) h = absurd (false≢true h)
-date-is (Some letters.Q) h = absurd (false≢true h)
-date-is (Some letters.P) h = absurd (false≢true h)
-date-is (Some letters.B) h = absurd (false≢true h)
+date-is (Some data_types.T) h = absurd (false≢true h)
+date-is (Some data_types.I) h = absurd (false≢true h)
+date-is (Some data_types.C) h = absurd (false≢true h)
+date-is (Some data_types.A) h = absurd (false≢true h)
+date-is (Some data_types.Q) h = absurd (false≢true h)
+date-is (Some data_types.P) h = absurd (false≢true h)
+date-is (Some data_types.B) h = absurd (false≢true h)
 
 -- a digit, a sign, a point
 is_plain : ℕ → Bool
@@ -104,7 +104,7 @@ append-nil (x ∷ xs) = ap (λ z. x ∷ z) (append-nil xs)
 trimmed-kept : (text : List ℕ) → HasEnds text → trimmed text ≡ text
 trimmed-kept text h = ap trimmed (sym (append-nil text)) ∙ trimmed-between [] text [] refl refl h
 
-day-read : (d : CivilDay) → read_dashed_day (dashed_day_text d) ≡ Some d → value_of letters.D (dashed_day_text d) ≡ Some (values.Date d)
+day-read : (d : CivilDay) → read_dashed_day (dashed_day_text d) ≡ Some d → value_of data_types.D (dashed_day_text d) ≡ Some (values.Date d)
 unfolding value_of
 day-read d back =
     let plain = day-plain d in
@@ -121,43 +121,44 @@ some-if false o y h = absurd (let k : None ≡ Some y = h in cc)
 -- ---- codes of BT-8
 
 ReadsCode : Image → Type 0
-ReadsCode image = value_of letters.C image.code ≡ Some (values.Code image.code)
+ReadsCode image = value_of data_types.C image.code ≡ Some (values.Code image.code)
 
-code-fits : (term : Term) (image : Image) (value : Value) → letter_of term ≡ Some letters.C → value_of letters.C image.code ≡ Some (values.Code image.code)
+code-fits : (term : Term) (image : Image) (value : Value) → data_type_of term ≡ Some data_types.C → value_of data_types.C image.code
+    ≡ Some (values.Code image.code)
     → Some (values.Code image.code) ≡ Some value → Fits term value
 code-fits term image value e read h =
-    subst (Fits term) (same_Some _ _ h) (record { letter = letters.C; text = image.code; typed = modelled e; read = read })
+    subst (Fits term) (same_Some _ _ h) (record { data_type = data_types.C; text = image.code; typed = modelled e; read = read })
 
-image-step : (term : Term) (image : Image) (others : Option Value) (value : Value) (b : Bool) → letter_of term ≡ Some letters.C
-    → value_of letters.C image.code ≡ Some (values.Code image.code)
+image-step : (term : Term) (image : Image) (others : Option Value) (value : Value) (b : Bool) → data_type_of term ≡ Some data_types.C
+    → value_of data_types.C image.code ≡ Some (values.Code image.code)
     → (others ≡ Some value → Fits term value) → (elim b [ true ↦ Some (values.Code image.code) | false ↦ others ]) ≡ Some value → Fits term value
 image-step term image others value true e read more h = code-fits term image value e read h
 image-step term image others value false e read more h = more h
 
-reads-3 : value_of letters.C (codes "3") ≡ Some (values.Code (codes "3"))
+reads-3 : value_of data_types.C (codes "3") ≡ Some (values.Code (codes "3"))
 unfolding value_of is_char is_white_space
 reads-3 = refl
 
-reads-35 : value_of letters.C (codes "35") ≡ Some (values.Code (codes "35"))
+reads-35 : value_of data_types.C (codes "35") ≡ Some (values.Code (codes "35"))
 unfolding value_of is_char is_white_space
 reads-35 = refl
 
-reads-432 : value_of letters.C (codes "432") ≡ Some (values.Code (codes "432"))
+reads-432 : value_of data_types.C (codes "432") ≡ Some (values.Code (codes "432"))
 unfolding value_of is_char is_white_space
 reads-432 = refl
 
-images-fit : (term : Term) (string : List ℕ) (value : Value) → letter_of term ≡ Some letters.C → image_among images string ≡ Some value → Fits term value
+images-fit : (term : Term) (string : List ℕ) (value : Value) → data_type_of term ≡ Some data_types.C → image_among images string ≡ Some value → Fits term value
 images-fit term string value e h =
     image-step term (record { written = codes "5"; code = codes "3" }) _ value (bytes_eq (codes "5") string) e reads-3
     (image-step term (record { written = codes "29"; code = codes "35" }) _ value (bytes_eq (codes "29") string) e reads-35
     (image-step term (record { written = codes "72"; code = codes "432" }) None value (bytes_eq (codes "72") string) e reads-432
     (λ k. absurd (let l : None ≡ Some value = k in cc)))) h
 
-due_date_term : (term : Term) → is_term 8 term ≡ true → letter_of term ≡ Some letters.C
+due_date_term : (term : Term) → is_term 8 term ≡ true → data_type_of term ≡ Some data_types.C
 unfolding terms
 due_date_term term h =
     let k = both (term.number == 8) (term.part == 0) h in
-    ap letter_of (λ i. record { number = (same-number term.number 8 k.0) i; part = (same-number term.part 0 k.1) i })
+    ap data_type_of (λ i. record { number = (same-number term.number 8 k.0) i; part = (same-number term.part 0 k.1) i })
 
 -- ---- notes
 
@@ -172,7 +173,7 @@ coded-fits code text =
     All-cons FitsIts (record { term = note; value = by_type note text }) (record { term = subject_code; value = by_type subject_code code } ∷ [])
     (by_type-fits note text) (one-fits subject_code (by_type subject_code code) (by_type-fits subject_code code))
 
-choice-fits : (b : Bool) (xs ys : List Said) → AllFit xs → AllFit ys → AllFit (elim b [ true ↦ xs | false ↦ ys ])
+choice-fits : (b : Bool) (xs ys : List ParsedValue) → AllFit xs → AllFit ys → AllFit (elim b [ true ↦ xs | false ↦ ys ])
 choice-fits true xs ys h k = h
 choice-fits false xs ys h k = k
 
@@ -198,34 +199,35 @@ not-true : (b : Bool) → not b ≡ true → b ≡ false
 not-true true h = absurd (false≢true h)
 not-true false h = refl
 
-typed-fits : (letter : Letter) (term : Term) (string : List ℕ) → suits (forms.Typed letter) term ≡ true → (value : Value) → value_of letter string ≡ Some value
+typed-fits : (data_type : DataType) (term : Term) (string : List ℕ) → suits (forms.Typed data_type) term ≡ true → (value : Value) → value_of data_type string
+    ≡ Some value
     → Fits term value
-typed-fits letter term string h value read =
-    let k = both (is_extension term) (not (is_base64 letter)) h in
-    record { letter = letter; text = string; typed = added k.0 (not-true (is_base64 letter) k.1); read = read }
+typed-fits data_type term string h value read =
+    let k = both (is_extension term) (not (is_base64 data_type)) h in
+    record { data_type = data_type; text = string; typed = added k.0 (not-true (is_base64 data_type) k.1); read = read }
 
 -- ---- each form
 
 module _ (dashed : (d : CivilDay) → IsDay d → read_dashed_day (dashed_day_text d) ≡ Some d)
     (days : (cs : List ℕ) (d : CivilDay) → read_plain_day cs ≡ Some d → IsDay d) where
-  date-fits : (term : Term) (string : List ℕ) (value : Value) → HasType term letters.D → plain_date string ≡ Some value → Fits term value
+  date-fits : (term : Term) (string : List ℕ) (value : Value) → HasType term data_types.D → plain_date string ≡ Some value → Fits term value
   date-fits term string value e h =
       let w = taken values.Date (read_plain_day (trimmed string)) value (some-if (list_all is_char string) _ value h) in
       let read = day-read w.0 (dashed w.0 (days _ w.0 w.1)) in
-      subst (Fits term) w.2 (record { letter = letters.D; text = dashed_day_text w.0; typed = e; read = read })
+      subst (Fits term) w.2 (record { data_type = data_types.D; text = dashed_day_text w.0; typed = e; read = read })
 
-  suited-fits : (form : Form) (term : Term) (string : List ℕ) → suits form term ≡ true → AllFit (said_in form term string)
+  suited-fits : (form : Form) (term : Term) (string : List ℕ) → suits form term ≡ true → AllFit (parsed_in form term string)
   suited-fits forms.Model term string h = one-fits term (by_type term string) (by_type-fits term string)
   suited-fits forms.PlainDate term string h = one-fits term (plain_date string) (λ v. date-fits term string v (modelled (date-is _ h)))
   suited-fits forms.DueDateTypeCode term string h = one-fits term (due_date_type string) (λ v. images-fit term (trimmed string) v (due_date_term term h))
   suited-fits forms.CodedNote term string h = note-fits string
-  suited-fits (forms.Typed letter) term string h = one-fits term (value_of letter string) (typed-fits letter term string h)
+  suited-fits (forms.Typed data_type) term string h = one-fits term (value_of data_type string) (typed-fits data_type term string h)
   suited-fits forms.TypedPlainDate term string h = one-fits term (plain_date string) (λ v. date-fits term string v (added h refl))
 
   form-fits : (form : Form) (term : Term) (string : List ℕ) (b : Bool) → suits form term ≡ b
-      → AllFit (said_in (elim b [ true ↦ form | false ↦ forms.Model ]) term string)
+      → AllFit (parsed_in (elim b [ true ↦ form | false ↦ forms.Model ]) term string)
   form-fits form term string true h = suited-fits form term string h
   form-fits form term string false h = suited-fits forms.Model term string refl
 
-  pub said-fits : (form : Form) (term : Term) (string : List ℕ) → AllFit (said form term string)
-  said-fits form term string = form-fits form term string (suits form term) refl
+  pub parsed-fits : (form : Form) (term : Term) (string : List ℕ) → AllFit (parsed form term string)
+  parsed-fits form term string = form-fits form term string (suits form term) refl

@@ -13,17 +13,17 @@ use Rattle.term_table.specs.Places.{place_of}
 use Rattle.inv_terms.specs.declared.entries.Entry.{Entry}
 use Rattle.inv_terms.specs.Listing as listing
 use Rattle.inv_terms.proofs.PushLemmas.{same_slot_itself}
-use Rattle.inv_terms.specs.declared.lacks.Lack.{Lack}
-use Rattle.inv_terms.specs.declared.lacks.TermFault.TheVariants as faults
+use Rattle.inv_terms.specs.declared.violations.ModelViolation.{ModelViolation}
+use Rattle.inv_terms.specs.declared.violations.TermFault.TheVariants as faults
 use Rattle.inv_terms.specs.Lacking.{first_missing}
-use Rattle.inv_terms.specs.Validity.{missing_in, contexts, unlisted, earlier, first_lack}
+use Rattle.inv_terms.specs.Validity.{missing_in, contexts, unlisted, earlier, first_violation}
 use Rattle.inv_terms.specs.Whole.{IsContextOf, IsShownBy, IsValid}
 use Rattle.inv_terms.proofs.ContextLemmas.{here, there, context_is, context_shown, member_cases, no_member}
 use Rattle.bind_rows.specs.declared.rows.Row.{Row}
 use Rattle.bind_meaning.specs.declared.fault.BindKind.TheVariants as kinds
 use Rattle.bind_meaning.specs.declared.picked.Seated.{Seated}
 use Rattle.bind_meaning.specs.Seats.{Placed, Room, slot_of, context_of, outer_room, inner_room, each_once, rooms}
-use Rattle.bind_meaning.specs.Judging.{Found, found, Told, told_by, said_by, missing_place, name_of, seat_of}
+use Rattle.bind_meaning.specs.Judging.{Found, found, Told, told_by, parsed_by, missing_place, name_of, seat_of}
 use Rattle.bind_meaning.specs.Judging as judging
 use Rattle.bind_meaning.specs.Terms.{Read, told, entries, terms_of}
 use Rattle.reading_laws.proofs.MissingLemmas.{AreAlike, first-same}
@@ -148,30 +148,30 @@ context-judged nodes ps c (inr w) = each-at (ShowsJudged ps) (entries (told node
 
 -- ---- nothing is missing where it was judged
 
-abbrev lack_in : List Seat → Context → Option Lack
-lack_in seats c = first_missing (filter (λ (seat : Seat). is_inside c seat.context) seats) c
+abbrev violation_in : List Seat → Context → Option ModelViolation
+violation_in seats c = first_missing (filter (λ (seat : Seat). is_inside c seat.context) seats) c
 
 rooms-whole : (nodes : List Node) (seats : List Seat) (rs : List Room) → flat_map (judging.missing_in nodes seats) rs ≡ []
-    → AllByRecursion (λ (room : Room). lack_in seats room.context ≡ None) rs
+    → AllByRecursion (λ (room : Room). violation_in seats room.context ≡ None) rs
 rooms-whole nodes seats [] h = tt
 rooms-whole nodes seats (room ∷ rs) h =
     let w = none-of-both (judging.missing_in nodes seats room) (flat_map (judging.missing_in nodes seats) rs) h in
-    (go (lack_in seats room.context) w.0, rooms-whole nodes seats rs w.1)
+    (go (violation_in seats room.context) w.0, rooms-whole nodes seats rs w.1)
   where
-    go : (o : Option Lack)
+    go : (o : Option ModelViolation)
         → ◌≡◌ {A = List Found} (elim o [
           | None ↦ []
-          | Some lack ↦ found (missing_place nodes room lack.place) kinds.Missing (name_of lack.fault) room.element ∷ []
+          | Some violation ↦ found (missing_place nodes room violation.place) kinds.Missing (name_of violation.fault) room.element ∷ []
         ]) []
         → o ≡ None
     go None k = refl
-    go (Some lack) k = absurd (let z : suc 0 ≡ 0 = ap length k in omega arith)
+    go (Some violation) k = absurd (let z : suc 0 ≡ 0 = ap length k in omega arith)
 
-judged-whole : (seats : List Seat) (rs : List Room) (c : Context) → AllByRecursion (λ (room : Room). lack_in seats room.context ≡ None) rs → Judged rs c
-    → lack_in seats c ≡ None
+judged-whole : (seats : List Seat) (rs : List Room) (c : Context) → AllByRecursion (λ (room : Room). violation_in seats room.context ≡ None) rs → Judged rs c
+    → violation_in seats c ≡ None
 judged-whole seats rs c all h =
-    let w = any-here (λ (room : Room). lack_in seats room.context ≡ None) (λ (room : Room). same_context room.context c) rs all h in
-    subst (λ d. lack_in seats d ≡ None) (context_is w.0.context c w.2) w.1
+    let w = any-here (λ (room : Room). violation_in seats room.context ≡ None) (λ (room : Room). same_context room.context c) rs all h in
+    subst (λ d. violation_in seats d ≡ None) (context_is w.0.context c w.2) w.1
 
 any-filter : {X : Type 0} (p q : X → Bool) (xs : List X) → list_any p (filter q xs) ≡ list_any (λ x. q x && p x) xs
 any-filter p q [] = refl
@@ -194,9 +194,9 @@ seats-alike ts v c p =
 
 -- ---- so it lacks nothing
 
-no-lack : (xs : List (Option Lack)) → AllByRecursion (λ o. o ≡ None) xs → fold earlier None xs ≡ None
-no-lack [] h = refl
-no-lack (o ∷ xs) h = ap (λ p. fold earlier (earlier None p) xs) h.0 ∙ no-lack xs h.1
+no-violation : (xs : List (Option ModelViolation)) → AllByRecursion (λ o. o ≡ None) xs → fold earlier None xs ≡ None
+no-violation [] h = refl
+no-violation (o ∷ xs) h = ap (λ p. fold earlier (earlier None p) xs) h.0 ∙ no-violation xs h.1
 
 context-whole : (nodes : List Node) (rows : List Row) (lists : Lists) (es : List Entry) → IsReadOf nodes rows lists es → (c : Context) → IsContextOf es c
     → missing_in es c ≡ None
@@ -212,15 +212,15 @@ code-whole : (lists : Lists) (e : Entry) → IsAllowed lists e → unlisted list
 code-whole lists e h = ap (λ b. if b then option_map (λ place. record { place = place; fault = faults.CodeNotListed e.term })
     (place_of e.term e.context) else None) h
 
-lacks-nothing : (nodes : List Node) (rows : List Row) (lists : Lists) (es : List Entry) → IsReadOf nodes rows lists es → first_lack es lists ≡ None
-lacks-nothing nodes rows lists es r =
-    no-lack (map (missing_in es) (contexts es) ++ map (unlisted lists) es)
+violations-nothing : (nodes : List Node) (rows : List Row) (lists : Lists) (es : List Entry) → IsReadOf nodes rows lists es → first_violation es lists ≡ None
+violations-nothing nodes rows lists es r =
+    no-violation (map (missing_in es) (contexts es) ++ map (unlisted lists) es)
     (each-append (λ o. o ≡ None) (map (missing_in es) (contexts es)) (map (unlisted lists) es)
     (each-map (λ o. o ≡ None) (missing_in es) (contexts es)
     (each-member (λ c. missing_in es c ≡ None) (contexts es) (λ c m. context-whole nodes rows lists es r c (context_shown es c m))))
     (each-map (λ o. o ≡ None) (unlisted lists) es
     (each-weaker (IsAllowed lists) (λ e. unlisted lists e ≡ None) (code-whole lists) es (each-allowed nodes rows lists es r))))
 
-pub read-valid : ((es : List Entry) (lists : Lists) → ((first_lack es lists ≡ None) ↔ IsValid es lists))
+pub read-valid : ((es : List Entry) (lists : Lists) → ((first_violation es lists ≡ None) ↔ IsValid es lists))
     → (nodes : List Node) (rows : List Row) (lists : Lists) (read : Read) → terms_of nodes rows lists ≡ Ok read → IsValid read.entries lists
-read-valid valid nodes rows lists read h = (valid read.entries lists).0 (lacks-nothing nodes rows lists read.entries (read-of nodes rows lists read h))
+read-valid valid nodes rows lists read h = (valid read.entries lists).0 (violations-nothing nodes rows lists read.entries (read-of nodes rows lists read h))

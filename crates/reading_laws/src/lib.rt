@@ -15,15 +15,15 @@ ghost use Rattle.node_arena.specs.Moves.{tree_nodes, IsOfATree};
 ghost use Rattle.bind_rows.specs.declared.rows.Form.{Form};
 ghost use Rattle.bind_rows.specs.declared.rows.Row.{Row};
 ghost use Rattle.bind_table.specs.WellFormed.{first_fault};
-ghost use Rattle.bind_rows.specs.declared.tables.Which.{Which};
+ghost use Rattle.bind_rows.specs.declared.tables.DocumentType.{DocumentType};
 ghost use Rattle.bind_meaning.specs.Tables.{rows_of};
 ghost use Rattle.bind_meaning.specs.Currencies.{currencies};
 ghost use Rattle.bind_meaning.specs.Seats.{context_of};
-ghost use Rattle.bind_meaning.specs.Values.{said};
+ghost use Rattle.bind_meaning.specs.Values.{parsed};
 ghost use Rattle.bind_meaning.specs.Judging.{Told};
 ghost use Rattle.bind_meaning.specs.Terms.{Read, told, term_picks, place_all, terms_of};
 ghost use Rattle.reading_laws.specs.Nodes.{Rise};
-ghost use Rattle.reading_laws.specs.Sayings.{AllFit};
+ghost use Rattle.reading_laws.specs.ParsedValues.{AllFit};
 
 use cii_binding::cii_is_well_formed;
 use inv_decimal::laws::{printed_days_are_read, readings_are_in_range};
@@ -32,7 +32,7 @@ use ubl_binding::{credit_note_is_well_formed, invoice_is_well_formed};
 
 /// Each value that a string says fits its term.
 pub fn said_values_fit_their_terms()
-    ensures { (form : Form) (term : Term) (string : List ℕ) → AllFit (said form term string) }
+    ensures { (form : Form) (term : Term) (string : List ℕ) → AllFit (parsed form term string) }
 {
     printed_days_are_read();
     readings_are_in_range();
@@ -86,9 +86,9 @@ pub fn read_invoices_are_valid()
     ensures rows { (nodes : List Node) (rows : List Row) (lists : Lists) (read : Read) → Rise 0 nodes → first_fault rows ≡ Ok tt
         → terms_of nodes rows lists ≡ Ok read
         → IsInvoice read.entries × IsValid read.entries lists }
-    ensures tables { (table : Which) (nodes : List Node) (lists : Lists) (read : Read) → Rise 0 nodes → terms_of nodes (rows_of table) lists ≡ Ok read
+    ensures tables { (table : DocumentType) (nodes : List Node) (lists : Lists) (read : Read) → Rise 0 nodes → terms_of nodes (rows_of table) lists ≡ Ok read
         → IsInvoice read.entries × IsValid read.entries lists }
-    ensures documents { (table : Which) (document : Document) (lists : Lists) (read : Read) → IsOfATree document
+    ensures documents { (table : DocumentType) (document : Document) (lists : Lists) (read : Read) → IsOfATree document
         → terms_of (tree_nodes document) (rows_of table) lists ≡ Ok read
         → IsInvoice read.entries × IsValid read.entries lists }
 {
@@ -103,7 +103,7 @@ pub fn read_invoices_are_valid()
 /// faults, and where the entries of an invoice are added one by one, none is refused.
 pub fn nothing_read_is_refused()
     ensures places { (nodes : List Node) (rows : List Row) → first_fault rows ≡ Ok tt
-        → All (λ (t : Told). is_some (place_of t.said.term (context_of t.placed)) ≡ true)
+        → All (λ (t : Told). is_some (place_of t.parsed.term (context_of t.placed)) ≡ true)
         (told nodes (place_all nodes (term_picks nodes (currencies nodes rows) rows))) }
     ensures entries { (es more : List Entry) (e : Entry) → IsInvoice (es ++ e ∷ more) → refusal es e ≡ None }
 {

@@ -11,7 +11,7 @@ use Rattle.std.specs.Borrow.{Bor}
 use Rattle.schematron_meaning.specs.declared.attribute.Attribute.{Attribute}
 use Rattle.schematron_meaning.specs.declared.attribute.Attribute.TheVariants as a
 use Rattle.schematron_meaning.specs.Entries.{Entry}
-use Rattle.schematron_meaning.specs.Expansion.{File, Put, puts, Instance, instances}
+use Rattle.schematron_meaning.specs.Expansion.{File, Inclusion, inclusions, Instance, instances}
 use Rattle.schematron_meaning.specs.Lookup.{attribute, is_let, is_assertion, is_own_rule, is_phase, is_active, of_role, inside, the_schema}
 use Rattle.schematron_meaning.specs.Written as written
 use Rattle.schematron_meaning.specs.Rules as spec
@@ -142,17 +142,18 @@ assertion_is es params scope e x kind test id flag role level message =
     let leveled : x.level ≡ level_of (spec.text_at a.Flag params e) (spec.text_at a.Role params e) = level ∙ (λ i. level_of (flag i) (role i)) in
     λ i. record { kind = kind i; test = test i; id = id i; flag = flag i; role = role i; level = leveled i; message = message i }
 
-pub rule_is : (file : File) (instance : Instance) (outer : Declared) (e : Entry) (x : Rule) (found : List Put) (lets assertions : List Entry) (scope : Declared)
-    → found ≡ puts file instance.stand e.number
+pub rule_is : (file : File) (instance : Instance) (outer : Declared) (e : Entry) (x : Rule) (found : List Inclusion) (lets assertions : List Entry) (scope :
+    Declared)
+    → found ≡ inclusions file instance.stand e.number
     → lets ≡ written.lets_among found → assertions ≡ spec.assertions_among found → scope ≡ written.with_lets instance.params outer lets
     → seen_shown x.context ≡ spec.shown a.Context true instance.params outer e → seen_lets x.lets ≡ spec.lets_behind instance.params outer lets
     → map seen_assertion x.assertions ≡ map (spec.assertion_of file.entries instance.params scope) assertions → seen_rule x ≡ spec.rule_of file instance outer e
 rule_is file instance outer e x found lets assertions scope is l t s c ls ts =
-    let own : lets ≡ written.lets_among (puts file instance.stand e.number) = l ∙ ap written.lets_among is in
-    let tests : assertions ≡ spec.assertions_among (puts file instance.stand e.number) = t ∙ ap spec.assertions_among is in
-    let in_scope : scope ≡ written.with_lets instance.params outer (written.lets_among (puts file instance.stand e.number)) = s ∙
+    let own : lets ≡ written.lets_among (inclusions file instance.stand e.number) = l ∙ ap written.lets_among is in
+    let tests : assertions ≡ spec.assertions_among (inclusions file instance.stand e.number) = t ∙ ap spec.assertions_among is in
+    let in_scope : scope ≡ written.with_lets instance.params outer (written.lets_among (inclusions file instance.stand e.number)) = s ∙
     ap (written.with_lets instance.params outer) own in
-    let all_lets : seen_lets x.lets ≡ spec.lets_behind instance.params outer (written.lets_among (puts file instance.stand e.number)) = ls ∙
+    let all_lets : seen_lets x.lets ≡ spec.lets_behind instance.params outer (written.lets_among (inclusions file instance.stand e.number)) = ls ∙
     ap (spec.lets_behind instance.params outer) own in
     let all_tests = ts ∙ (λ i. map (spec.assertion_of file.entries instance.params (in_scope i)) (tests i)) in
     λ i. record { context = c i; lets = all_lets i; assertions = all_tests i }

@@ -16,7 +16,7 @@ use crate::picking::push_if;
 use crate::texts::shown;
 use inv_base::Many;
 use schematron_entries::Entry;
-use schematron_expansion::{Instance, Put, RuleFile, Sort};
+use schematron_expansion::{Inclusion, Instance, RuleFile, Sort};
 use schematron_meaning::{Attribute, MOST_THINGS_OF_A_RULE};
 use schematron_rules::{Assertion, Let, Rule};
 use schematron_texts::Parameters;
@@ -24,12 +24,15 @@ use std::alloc::{AllocError, Global};
 use xpath_types::Scope;
 
 /// The lets among what a rule has.
-fn lets_among<'e, 'd>(alloc: Global, puts: &[Put<'e, 'd>]) -> Result<Vec<&'e Entry<'d>>, AllocError>
-    ensures { IfOk result (λ lets. lent_entries lets.items ≡ written.lets_among (lent_puts puts.now)) }
+fn lets_among<'e, 'd>(
+    alloc: Global,
+    inclusions: &[Inclusion<'e, 'd>],
+) -> Result<Vec<&'e Entry<'d>>, AllocError>
+    ensures { IfOk result (λ lets. lent_entries lets.items ≡ written.lets_among (lent_puts inclusions.now)) }
 {
     let mut lets = Vec::new(alloc);
-    'puts: for put in puts {
-        push_if(&mut lets, put.entry, put.entry.role.is_let())?;
+    'inclusions: for inclusion in inclusions {
+        push_if(&mut lets, inclusion.entry, inclusion.entry.role.is_let())?;
     }
     Ok(lets)
 }
@@ -37,13 +40,17 @@ fn lets_among<'e, 'd>(alloc: Global, puts: &[Put<'e, 'd>]) -> Result<Vec<&'e Ent
 /// The assertions among what a rule has.
 fn assertions_among<'e, 'd>(
     alloc: Global,
-    puts: &[Put<'e, 'd>],
+    inclusions: &[Inclusion<'e, 'd>],
 ) -> Result<Vec<&'e Entry<'d>>, AllocError>
-    ensures { IfOk result (λ found. lent_entries found.items ≡ spec.assertions_among (lent_puts puts.now)) }
+    ensures { IfOk result (λ found. lent_entries found.items ≡ spec.assertions_among (lent_puts inclusions.now)) }
 {
     let mut found = Vec::new(alloc);
-    'puts: for put in puts {
-        push_if(&mut found, put.entry, put.entry.role.is_assertion())?;
+    'inclusions: for inclusion in inclusions {
+        push_if(
+            &mut found,
+            inclusion.entry,
+            inclusion.entry.role.is_assertion(),
+        )?;
     }
     Ok(found)
 }
@@ -54,12 +61,12 @@ fn lets_of(
     budget: &mut Budget,
     params: &Parameters,
     scope: &mut Scope,
-    puts: &[Put<'_, '_>],
+    inclusions: &[Inclusion<'_, '_>],
 ) -> Result<Many<Let>, AllocError>
-    ensures lets { IfOk result (λ lets. seen_lets lets ≡ spec.lets_behind params.now scope.old (written.lets_among (lent_puts puts.now))) }
-    ensures scope { OnOk result (scope.new ≡ written.with_lets params.now scope.old (written.lets_among (lent_puts puts.now))) }
+    ensures lets { IfOk result (λ lets. seen_lets lets ≡ spec.lets_behind params.now scope.old (written.lets_among (lent_puts inclusions.now))) }
+    ensures scope { OnOk result (scope.new ≡ written.with_lets params.now scope.old (written.lets_among (lent_puts inclusions.now))) }
 {
-    let lets = lets_among(alloc, puts)?;
+    let lets = lets_among(alloc, inclusions)?;
     lets_behind(alloc, budget, params, scope, lets)
 }
 
@@ -70,12 +77,12 @@ fn asserted(
     file: &RuleFile<'_, '_>,
     params: &Parameters,
     scope: &Scope,
-    puts: &[Put<'_, '_>],
+    inclusions: &[Inclusion<'_, '_>],
 ) -> Result<Many<Assertion>, AllocError>
     ensures { IfOk result (λ found. map seen_assertion found
-        ≡ map (spec.assertion_of file.now.entries params.now scope.now) (spec.assertions_among (lent_puts puts.now))) }
+        ≡ map (spec.assertion_of file.now.entries params.now scope.now) (spec.assertions_among (lent_puts inclusions.now))) }
 {
-    let found = assertions_among(alloc, puts)?;
+    let found = assertions_among(alloc, inclusions)?;
     assertions_of(alloc, budget, file, params, scope, found)
 }
 
@@ -86,15 +93,15 @@ fn lets_and_assertions(
     file: &RuleFile<'_, '_>,
     params: &Parameters,
     scope: &mut Scope,
-    puts: &[Put<'_, '_>],
+    inclusions: &[Inclusion<'_, '_>],
 ) -> Result<(Many<Let>, Many<Assertion>), AllocError>
-    ensures lets { IfOk result (λ both. seen_lets both.0 ≡ spec.lets_behind params.now scope.old (written.lets_among (lent_puts puts.now))) }
+    ensures lets { IfOk result (λ both. seen_lets both.0 ≡ spec.lets_behind params.now scope.old (written.lets_among (lent_puts inclusions.now))) }
     ensures assertions { IfOk result (λ both. map seen_assertion both.1
-        ≡ map (spec.assertion_of file.now.entries params.now scope.new) (spec.assertions_among (lent_puts puts.now))) }
-    ensures scope { OnOk result (scope.new ≡ written.with_lets params.now scope.old (written.lets_among (lent_puts puts.now))) }
+        ≡ map (spec.assertion_of file.now.entries params.now scope.new) (spec.assertions_among (lent_puts inclusions.now))) }
+    ensures scope { OnOk result (scope.new ≡ written.with_lets params.now scope.old (written.lets_among (lent_puts inclusions.now))) }
 {
-    let lets = lets_of(alloc, budget, params, scope, puts)?;
-    match asserted(alloc, budget, file, params, scope, puts) {
+    let lets = lets_of(alloc, budget, params, scope, inclusions)?;
+    match asserted(alloc, budget, file, params, scope, inclusions) {
         Ok(assertions) => Ok((lets, assertions)),
         Err(error) => {
             drop(lets);
@@ -111,16 +118,16 @@ fn rule_with(
     instance: &Instance<'_, '_>,
     scope: &mut Scope,
     e: &Entry<'_>,
-    puts: &[Put<'_, '_>],
+    inclusions: &[Inclusion<'_, '_>],
 ) -> Result<Rule, AllocError>
-    requires { lent_puts puts.now ≡ expansion.puts file.now instance.now.stand (seen_entry e.now).number }
+    requires { lent_puts inclusions.now ≡ expansion.inclusions file.now instance.now.stand (seen_entry e.now).number }
     ensures rule { IfOk result (λ rule. seen_rule rule ≡ spec.rule_of file.now (seen_instance instance.now) scope.old (seen_entry e.now)) }
     ensures scope { OnOk result (scope.new ≡ scope.old) }
 {
     let params = &instance.params;
     let context = shown(alloc, budget, params, scope, true, Attribute::Context, e)?;
     let count = scope.count();
-    match lets_and_assertions(alloc, budget, file, params, scope, puts) {
+    match lets_and_assertions(alloc, budget, file, params, scope, inclusions) {
         Ok((lets, assertions)) => {
             scope.truncate(count);
             Ok(Rule {
@@ -149,14 +156,14 @@ fn rule_of(
     ensures scope { OnOk result (scope.new ≡ scope.old) }
 {
     budget.take_thing()?;
-    let puts = file.puts(
+    let inclusions = file.inclusions(
         alloc,
         MOST_THINGS_OF_A_RULE,
         instance.stand,
         e.node.number(),
     )?;
-    let rule = rule_with(alloc, budget, file, instance, scope, e, &puts);
-    drop(puts);
+    let rule = rule_with(alloc, budget, file, instance, scope, e, &inclusions);
+    drop(inclusions);
     rule
 }
 

@@ -15,7 +15,7 @@ use Rattle.schematron_graph.specs.Rules.{things_put, expansion}
 use Rattle.schematron_graph.specs.Firsts.{firsts_behind, firsts}
 use Rattle.schematron_meaning.specs.Entries.{Entry}
 use Rattle.schematron_meaning.specs.Lookup.{at_node}
-use Rattle.schematron_meaning.specs.Expansion.{File, Put, put_at, put_at_stand}
+use Rattle.schematron_meaning.specs.Expansion.{File, Inclusion, put_at, put_at_stand}
 use Rattle.schematron_expansion.specs.Seen.{first_puts_behind, Tells}
 use Rattle.schematron_expansion.proofs.ChainLemmas.{itself}
 
@@ -30,13 +30,13 @@ flat_on g xs i x found more within h m = m ∙ (ap (λ ys. ys ++ g (get_or xs i 
 -- ---- things of one rule
 
 -- what stands at the number of a thing
-abbrev pub at_thing : File → Option ℕ → Thing → List Put
+abbrev pub at_thing : File → Option ℕ → Thing → List Inclusion
 at_thing file stand thing = map (put_at_stand stand) (at_node file.entries thing.number)
 
 things_are : (file : File) (rule : ℕ) → expansion file.bodies (Puts rule ∷ []) ≡ things_put file.bodies rule
 things_are file rule = append-nil (things_put file.bodies rule)
 
-pub things_on : (file : File) (stand : Option ℕ) (things : List Thing) (i : ℕ) (t : Thing) (before found more : List Put) → i < length things
+pub things_on : (file : File) (stand : Option ℕ) (things : List Thing) (i : ℕ) (t : Thing) (before found more : List Inclusion) → i < length things
     → found ≡ before ++ flat_map (at_thing file stand) (take i things)
     → more ≡ found ++ at_thing file stand (get_or things i t) → more ≡ before ++ flat_map (at_thing file stand) (take (i + 1) things)
 things_on file stand things i t before found more within h m =
@@ -48,7 +48,7 @@ things_on file stand things i t before found more within h m =
 gone_through : {X : Type 0} (xs ys : List X) (i : ℕ) → ys ≡ xs → length ys ≤ i → take i ys ≡ xs
 gone_through xs ys i is h = take_all i ys h ∙ is
 
-pub put_all : (file : File) (stand : Option ℕ) (rule : ℕ) (graph : List (List Part)) (things lent : List Thing) (i : ℕ) (before found : List Put)
+pub put_all : (file : File) (stand : Option ℕ) (rule : ℕ) (graph : List (List Part)) (things lent : List Thing) (i : ℕ) (before found : List Inclusion)
     → graph ≡ file.bodies → things ≡ expansion graph (Puts rule ∷ []) → lent ≡ things
     → length lent ≤ i → found ≡ before ++ flat_map (at_thing file stand) (take i lent) → found ≡ before ++ put_at file stand (Some rule)
 put_all file stand rule graph things lent i before found g is l all h =
@@ -58,21 +58,22 @@ put_all file stand rule graph things lent i before found g is l all h =
 -- ---- the first of each
 
 -- what is first, by whether the number was told
-abbrev put_if : Put → List Put → List Put → Bool → List Put
-put_if put old new true = old
-put_if put old new false = put ∷ new
+abbrev put_if : Inclusion → List Inclusion → List Inclusion → Bool → List Inclusion
+put_if inclusion old new true = old
+put_if inclusion old new false = inclusion ∷ new
 
 abbrev thing_if : Thing → List Thing → List Thing → Bool → List Thing
 thing_if thing old new true = old
 thing_if thing old new false = thing ∷ new
 
-told_put : (put : Put) (puts : List Put) (told : List ℕ) → list_any (nat_eq put.entry.number) told ≡ true
-    → first_puts_behind told (put ∷ puts) ≡ first_puts_behind told puts
-told_put put puts told h = ap (put_if put (first_puts_behind told puts) (first_puts_behind (put.entry.number ∷ told) puts)) h
+told_put : (inclusion : Inclusion) (inclusions : List Inclusion) (told : List ℕ) → list_any (nat_eq inclusion.entry.number) told ≡ true
+    → first_puts_behind told (inclusion ∷ inclusions) ≡ first_puts_behind told inclusions
+told_put inclusion inclusions told h = ap (put_if inclusion (first_puts_behind told inclusions) (first_puts_behind (inclusion.entry.number ∷ told)
+    inclusions)) h
 
-new_put : (put : Put) (puts : List Put) (told : List ℕ) → list_any (nat_eq put.entry.number) told ≡ false
-    → first_puts_behind told (put ∷ puts) ≡ put ∷ first_puts_behind (put.entry.number ∷ told) puts
-new_put put puts told h = ap (put_if put (first_puts_behind told puts) (first_puts_behind (put.entry.number ∷ told) puts)) h
+new_put : (inclusion : Inclusion) (inclusions : List Inclusion) (told : List ℕ) → list_any (nat_eq inclusion.entry.number) told ≡ false
+    → first_puts_behind told (inclusion ∷ inclusions) ≡ inclusion ∷ first_puts_behind (inclusion.entry.number ∷ told) inclusions
+new_put inclusion inclusions told h = ap (put_if inclusion (first_puts_behind told inclusions) (first_puts_behind (inclusion.entry.number ∷ told) inclusions)) h
 
 -- both tell the same numbers
 abbrev Alike : List ℕ → List ℕ → Type 0
@@ -81,10 +82,11 @@ Alike told other = (n : ℕ) → list_any (nat_eq n) told ≡ list_any (nat_eq n
 alike_more : (m : ℕ) (told other : List ℕ) → Alike told other → Alike (m ∷ told) (m ∷ other)
 alike_more m told other h n = ap (λ b. nat_eq n m || b) (h n)
 
-alike_first : (told other : List ℕ) (puts : List Put) → Alike told other → first_puts_behind told puts ≡ first_puts_behind other puts
+alike_first : (told other : List ℕ) (inclusions : List Inclusion) → Alike told other → first_puts_behind told inclusions ≡ first_puts_behind other inclusions
 alike_first told other [] h = refl
-alike_first told other (put ∷ puts) h = (λ i. put_if put (alike_first told other puts h i)
-    (alike_first (put.entry.number ∷ told) (put.entry.number ∷ other) puts (alike_more put.entry.number told other h) i) (h put.entry.number i))
+alike_first told other (inclusion ∷ inclusions) h = (λ i. put_if inclusion (alike_first told other inclusions h i)
+    (alike_first (inclusion.entry.number ∷ told) (inclusion.entry.number ∷ other) inclusions (alike_more inclusion.entry.number told other h) i) (h
+        inclusion.entry.number i))
 
 or_true : (b c : Bool) → c ≡ true → (b || c) ≡ true
 or_true true c h = refl
@@ -101,29 +103,31 @@ alike_last m told n = list_any-append (nat_eq n) told (m ∷ []) ∙ or_same (li
 
 -- ---- telling
 
-tells_both : (told more most : List ℕ) (found longer longest puts others : List Put) → Tells told found more longer puts → Tells more longer most longest others
-    → Tells told found most longest (puts ++ others)
-tells_both told more most found longer longest puts others h k rest =
-    k rest ∙ (h (others ++ rest) ∙ ap (λ ps. found ++ first_puts_behind told ps) (sym (append_assoc puts others rest)))
+tells_both : (told more most : List ℕ) (found longer longest inclusions others : List Inclusion) → Tells told found more longer inclusions
+    → Tells more longer most longest others
+    → Tells told found most longest (inclusions ++ others)
+tells_both told more most found longer longest inclusions others h k rest =
+    k rest ∙ (h (others ++ rest) ∙ ap (λ ps. found ++ first_puts_behind told ps) (sym (append_assoc inclusions others rest)))
 
-tells_new : (told more : List ℕ) (found longer : List Put) (put : Put) → list_any (nat_eq put.entry.number) told ≡ false → more ≡ told ++ put.entry.number ∷ []
-    → longer ≡ found ++ put ∷ []
-    → Tells told found more longer (put ∷ [])
-tells_new told more found longer put is m l rest = (λ i. l i ++ first_puts_behind (m i) rest)
-    ∙ (append_assoc found (put ∷ []) (first_puts_behind (told ++ put.entry.number ∷ []) rest)
-    ∙ ap (λ ps. found ++ ps) (ap (λ ps. put ∷ ps) (alike_first (told ++ put.entry.number ∷ []) (put.entry.number ∷ told) rest
-    (alike_last put.entry.number told)) ∙ sym (new_put put rest told is)))
+tells_new : (told more : List ℕ) (found longer : List Inclusion) (inclusion : Inclusion) → list_any (nat_eq inclusion.entry.number) told ≡ false → more
+    ≡ told ++ inclusion.entry.number ∷ []
+    → longer ≡ found ++ inclusion ∷ []
+    → Tells told found more longer (inclusion ∷ [])
+tells_new told more found longer inclusion is m l rest = (λ i. l i ++ first_puts_behind (m i) rest)
+    ∙ (append_assoc found (inclusion ∷ []) (first_puts_behind (told ++ inclusion.entry.number ∷ []) rest)
+    ∙ ap (λ ps. found ++ ps) (ap (λ ps. inclusion ∷ ps) (alike_first (told ++ inclusion.entry.number ∷ []) (inclusion.entry.number ∷ told) rest
+    (alike_last inclusion.entry.number told)) ∙ sym (new_put inclusion rest told is)))
 
 -- the number was put in
-pub tells_put : (told more : List ℕ) (found longer : List Put) (put : Put) (n : ℕ) (added : Bool) → n ≡ put.entry.number
+pub tells_put : (told more : List ℕ) (found longer : List Inclusion) (inclusion : Inclusion) (n : ℕ) (added : Bool) → n ≡ inclusion.entry.number
     → added ≡ not (list_any (nat_eq n) told) → added ≡ true → more ≡ insert_key nat_eq told n
-    → longer ≡ found ++ put ∷ [] → Tells told found more longer (put ∷ [])
-tells_put told more found longer put n added is a put_in m l =
+    → longer ≡ found ++ inclusion ∷ [] → Tells told found more longer (inclusion ∷ [])
+tells_put told more found longer inclusion n added is a put_in m l =
     let none : list_any (nat_eq n) told ≡ false = not-true (list_any (nat_eq n) told) (sym a ∙ put_in) in
-    tells_new told more found longer put (ap (λ k. list_any (nat_eq k) told) (sym is) ∙ none) (m ∙ (ap (λ b. if b then told else told ++ n ∷ []) none
+    tells_new told more found longer inclusion (ap (λ k. list_any (nat_eq k) told) (sym is) ∙ none) (m ∙ (ap (λ b. if b then told else told ++ n ∷ []) none
     ∙ ap (λ k. told ++ k ∷ []) is)) l
 
-pub tells_on : (file : File) (stand : Option ℕ) (things : List Thing) (i : ℕ) (t : Thing) (told more most : List ℕ) (found longer longest : List Put)
+pub tells_on : (file : File) (stand : Option ℕ) (things : List Thing) (i : ℕ) (t : Thing) (told more most : List ℕ) (found longer longest : List Inclusion)
     → i < length things
     → Tells told found more longer (flat_map (at_thing file stand) (take i things)) → Tells more longer most longest (at_thing file stand (get_or things i t))
     → Tells told found most longest (flat_map (at_thing file stand) (take (i + 1) things))
@@ -148,7 +152,7 @@ module _ (file : File) (stand : Option ℕ) where
   abbrev one : ℕ → Option Entry
   one n = find (λ (e : Entry). nat_eq e.number n) file.entries
 
-  abbrev put_of : Option Entry → List Put
+  abbrev put_of : Option Entry → List Inclusion
   put_of o = map (put_at_stand stand) (option_to_list o)
 
   -- the number was told, unless nothing has it
@@ -172,7 +176,7 @@ module _ (file : File) (stand : Option ℕ) where
       by true is j = subst (λ x. GoneOver more x (one x)) (sym (eqb-true m n is)) here
       by false is j = gone_more told more m (one m) (grows m) (h m j)
 
-  gone_first : (told : List ℕ) (n : ℕ) (o : Option Entry) → one n ≡ o → GoneOver told n o → (rest : List Put)
+  gone_first : (told : List ℕ) (n : ℕ) (o : Option Entry) → one n ≡ o → GoneOver told n o → (rest : List Inclusion)
       → first_puts_behind told (put_of o ++ rest) ≡ first_puts_behind told rest
   gone_first told n None is h rest = refl
   gone_first told n (Some e) is h rest =
@@ -180,11 +184,11 @@ module _ (file : File) (stand : Option ℕ) where
       (eqb-true e.number n (passes (λ (x : Entry). nat_eq x.number n) file.entries e is)) ∙ h)
 
   -- of these things copies may go, where these numbers were seen and those told
-  abbrev Same : List Thing → List Put → List ℕ → List ℕ → Type 0
+  abbrev Same : List Thing → List Inclusion → List ℕ → List ℕ → Type 0
   Same things rest seen told = first_puts_behind told (flat_map (at_thing file stand) (firsts_behind seen things) ++ rest) ≡ first_puts_behind told
       (flat_map (at_thing file stand) things ++ rest)
 
-  copy_seen : (t : Thing) (things : List Thing) (seen told : List ℕ) (rest : List Put) → list_any (nat_eq t.number) seen ≡ true
+  copy_seen : (t : Thing) (things : List Thing) (seen told : List ℕ) (rest : List Inclusion) → list_any (nat_eq t.number) seen ≡ true
       → GoneOver told t.number (one t.number) → Same things rest seen told
       → Same (t ∷ things) rest seen told
   copy_seen t things seen told rest is h same =
@@ -194,12 +198,12 @@ module _ (file : File) (stand : Option ℕ) where
       ∙ gone_first told t.number (one t.number) refl h (flat_map (at_thing file stand) things ++ rest)))
 
   -- what is new: nothing has the number, or it was told, or it is told now
-  new_none : (n : ℕ) (front back : List Put) (seen told : List ℕ) → one n ≡ None → Covered seen told
+  new_none : (n : ℕ) (front back : List Inclusion) (seen told : List ℕ) → one n ≡ None → Covered seen told
       → ((r : List ℕ) → Covered (n ∷ seen) r → first_puts_behind r front ≡ first_puts_behind r back)
       → first_puts_behind told front ≡ first_puts_behind told back
   new_none n front back seen told is h later = later told (covered_more n seen told told h (λ m k. k) (subst (GoneOver told n) (sym is) tt))
 
-  new_some : (n : ℕ) (front back : List Put) (seen told : List ℕ) (e : Entry) (b : Bool) → one n ≡ Some e
+  new_some : (n : ℕ) (front back : List Inclusion) (seen told : List ℕ) (e : Entry) (b : Bool) → one n ≡ Some e
       → list_any (nat_eq e.number) told ≡ b → Covered seen told
       → ((r : List ℕ) → Covered (n ∷ seen) r → first_puts_behind r front ≡ first_puts_behind r back)
       → first_puts_behind told (put_at_stand stand e ∷ front) ≡ first_puts_behind told (put_at_stand stand e ∷ back)
@@ -216,25 +220,25 @@ module _ (file : File) (stand : Option ℕ) where
       (λ m j. or_true (nat_eq m e.number) (list_any (nat_eq m) told) j) (subst (GoneOver (e.number ∷ told) n) (sym is) here)))
       ∙ sym (new_put (put_at_stand stand e) back told k))
 
-  new_first : (n : ℕ) (front back : List Put) (seen told : List ℕ) (o : Option Entry) → one n ≡ o → Covered seen told
+  new_first : (n : ℕ) (front back : List Inclusion) (seen told : List ℕ) (o : Option Entry) → one n ≡ o → Covered seen told
       → ((r : List ℕ) → Covered (n ∷ seen) r → first_puts_behind r front ≡ first_puts_behind r back)
       → first_puts_behind told (put_of o ++ front) ≡ first_puts_behind told (put_of o ++ back)
   new_first n front back seen told None is h later = new_none n front back seen told is h later
   new_first n front back seen told (Some e) is h later = new_some n front back seen told e (list_any (nat_eq e.number) told) is refl h later
 
-  copy_new : (t : Thing) (things : List Thing) (seen told : List ℕ) (rest : List Put) → list_any (nat_eq t.number) seen ≡ false → Covered seen told
+  copy_new : (t : Thing) (things : List Thing) (seen told : List ℕ) (rest : List Inclusion) → list_any (nat_eq t.number) seen ≡ false → Covered seen told
       → ((s r : List ℕ) → Covered s r → Same things rest s r)
       → Same (t ∷ things) rest seen told
   copy_new t things seen told rest is h later =
-      let front : List Put = flat_map (at_thing file stand) (firsts_behind (t.number ∷ seen) things) in
-      let back : List Put = flat_map (at_thing file stand) things in
+      let front : List Inclusion = flat_map (at_thing file stand) (firsts_behind (t.number ∷ seen) things) in
+      let back : List Inclusion = flat_map (at_thing file stand) things in
       ap (λ b. first_puts_behind told (flat_map (at_thing file stand) (thing_if t (firsts_behind seen things) (firsts_behind (t.number ∷ seen) things) b)
       ++ rest)) is
       ∙ (ap (first_puts_behind told) (append_assoc (at_thing file stand t) front rest)
       ∙ (new_first t.number (front ++ rest) (back ++ rest) seen told (one t.number) refl h (λ r c. later (t.number ∷ seen) r c)
       ∙ sym (ap (first_puts_behind told) (append_assoc (at_thing file stand t) back rest))))
 
-  copies : (things : List Thing) (seen told : List ℕ) (rest : List Put) → Covered seen told → Same things rest seen told
+  copies : (things : List Thing) (seen told : List ℕ) (rest : List Inclusion) → Covered seen told → Same things rest seen told
   copies [] seen told rest h = refl
   copies (t ∷ things) seen told rest h = by (list_any (nat_eq t.number) seen) refl (λ s r c. copies things s r rest c)
     where
@@ -246,14 +250,15 @@ module _ (file : File) (stand : Option ℕ) where
   none_seen told n h = absurd (false≢true h)
 
   -- the first things of a rule tell what all of them do
-  tells_firsts : (things all : List Thing) (told more : List ℕ) (found longer : List Put) → things ≡ firsts all
+  tells_firsts : (things all : List Thing) (told more : List ℕ) (found longer : List Inclusion) → things ≡ firsts all
       → Tells told found more longer (flat_map (at_thing file stand) things)
       → Tells told found more longer (flat_map (at_thing file stand) all)
   tells_firsts things all told more found longer is h rest = h rest
       ∙ (ap (λ ts. found ++ first_puts_behind told (flat_map (at_thing file stand) ts ++ rest)) is
       ∙ ap (λ ps. found ++ ps) (copies all [] told rest (none_seen told)))
 
-  pub tells_rule : (rule : ℕ) (graph : List (List Part)) (things lent : List Thing) (i : ℕ) (told more : List ℕ) (found longer : List Put) → graph ≡ file.bodies
+  pub tells_rule : (rule : ℕ) (graph : List (List Part)) (things lent : List Thing) (i : ℕ) (told more : List ℕ) (found longer : List Inclusion) → graph
+      ≡ file.bodies
       → things ≡ firsts (expansion graph (Puts rule ∷ [])) → lent ≡ things
       → length lent ≤ i → Tells told found more longer (flat_map (at_thing file stand) (take i lent))
       → Tells told found more longer (put_at file stand (Some rule))

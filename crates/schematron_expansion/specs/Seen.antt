@@ -8,7 +8,7 @@ use Rattle.schematron_meaning.specs.Entries as meaning
 use Rattle.schematron_meaning.specs.Lookup.{attribute}
 use Rattle.schematron_meaning.specs.Expansion as spec
 use Rattle.schematron_texts.specs.Replacing.{Parameter}
-use Rattle.schematron_expansion.specs.declared.puts.Put.{Put}
+use Rattle.schematron_expansion.specs.declared.inclusions.Inclusion.{Inclusion}
 use Rattle.schematron_expansion.specs.declared.instances.Instance.{Instance}
 
 -- what is seen of entries that are lent
@@ -16,11 +16,11 @@ abbrev pub seen_things : {L : Type 0} → (L → Entry) → List L → List mean
 seen_things lent es = map (λ e. seen_entry (lent e)) es
 
 -- what is seen of a let or an assertion in a rule
-abbrev pub seen_put : Put → spec.Put
-seen_put put = record { stand = put.stand; entry = seen_entry put.entry.now }
+abbrev pub seen_put : Inclusion → spec.Inclusion
+seen_put inclusion = record { stand = inclusion.stand; entry = seen_entry inclusion.entry.now }
 
 -- what elements of a rule put, one after another
-abbrev pub puts_of : spec.File → Option ℕ → List meaning.Entry → List spec.Put
+abbrev pub puts_of : spec.File → Option ℕ → List meaning.Entry → List spec.Inclusion
 puts_of file stand es = flat_map (λ (e : meaning.Entry). spec.puts_by e.role file stand e) es
 
 -- the parameters with those that some elements give
@@ -32,17 +32,18 @@ abbrev pub seen_instance : Instance → spec.Instance
 seen_instance x = record { pattern = seen_entry x.pattern.now; body = x.body; stand = x.stand; params = x.params }
 
 -- of each entry the first, but for those of which one was told before
-abbrev pub first_puts_behind : List ℕ → List spec.Put → List spec.Put
+abbrev pub first_puts_behind : List ℕ → List spec.Inclusion → List spec.Inclusion
 first_puts_behind told [] = []
-first_puts_behind told (put ∷ puts) = elim (list_any (nat_eq put.entry.number) told) [
-  | true ↦ first_puts_behind told puts
-  | false ↦ put ∷ first_puts_behind (put.entry.number ∷ told) puts
+first_puts_behind told (inclusion ∷ inclusions) = elim (list_any (nat_eq inclusion.entry.number) told) [
+  | true ↦ first_puts_behind told inclusions
+  | false ↦ inclusion ∷ first_puts_behind (inclusion.entry.number ∷ told) inclusions
 ]
 
 -- of each entry the first
-abbrev pub first_puts : List spec.Put → List spec.Put
-first_puts puts = first_puts_behind [] puts
+abbrev pub first_puts : List spec.Inclusion → List spec.Inclusion
+first_puts inclusions = first_puts_behind [] inclusions
 
 -- What was told and found becomes this by these puts: whatever follows them, of all the same comes first.
-abbrev pub Tells : List ℕ → List spec.Put → List ℕ → List spec.Put → List spec.Put → Type 0
-Tells told found more longer puts = (rest : List spec.Put) → longer ++ first_puts_behind more rest ≡ found ++ first_puts_behind told (puts ++ rest)
+abbrev pub Tells : List ℕ → List spec.Inclusion → List ℕ → List spec.Inclusion → List spec.Inclusion → Type 0
+Tells told found more longer inclusions = (rest : List spec.Inclusion) → longer ++ first_puts_behind more rest
+    ≡ found ++ first_puts_behind told (inclusions ++ rest)

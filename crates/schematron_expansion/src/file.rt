@@ -16,7 +16,7 @@ use crate::links::{Links, links_of};
 use crate::sorts::is_of;
 use indexmap::IndexMap;
 use schematron_entries::{Chains, Entry};
-use schematron_graph::{Graph, Turns};
+use schematron_graph::{Budget, Graph};
 use schematron_meaning::Attribute;
 use std::alloc::{AllocError, Global};
 use std::marker::Model;
@@ -107,7 +107,7 @@ impl<'e, 'd> RuleFile<'e, 'd> {
     ) -> Result<Vec<&'e Entry<'d>>, AllocError>
         ensures { IfOk result (λ found. map (λ e. seen_entry e.now) found.items ≡ lookup.inside (test_of sort) self.now.entries number) }
     {
-        let mut ample = Turns { left: u64::MAX };
+        let mut ample = Budget { left: u64::MAX };
         self.inside_within(alloc, &mut ample, sort, number)
     }
 
@@ -115,7 +115,7 @@ impl<'e, 'd> RuleFile<'e, 'd> {
     pub fn inside_within(
         &self,
         alloc: Global,
-        left: &mut Turns,
+        left: &mut Budget,
         sort: Sort,
         number: u32,
     ) -> Result<Vec<&'e Entry<'d>>, AllocError>
@@ -153,7 +153,7 @@ impl<'e, 'd> RuleFile<'e, 'd> {
 /// What stands in an element, of a sort, by the chain of what stands there.
 fn inside<'e, 'd>(
     alloc: Global,
-    left: &mut Turns,
+    left: &mut Budget,
     entries: &'e [Entry<'d>],
     chains: &Chains,
     sort: Sort,

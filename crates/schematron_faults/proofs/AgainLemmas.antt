@@ -17,7 +17,7 @@ use Rattle.schematron_meaning.specs.Entries.{Entry}
 use Rattle.schematron_meaning.specs.Lookup.{attribute, is_let, is_part, is_item, inside, at_node}
 use Rattle.schematron_texts.specs.Replacing.{Parameter, replaced}
 use Rattle.schematron_meaning.specs.Bodies.{put_by}
-use Rattle.schematron_meaning.specs.Expansion.{File, Put, Instance, put_at_stand, put_at, puts_by, puts, instances}
+use Rattle.schematron_meaning.specs.Expansion.{File, Inclusion, Instance, put_at_stand, put_at, puts_by, inclusions, instances}
 use Rattle.schematron_meaning.specs.Written.{Written, name_of, declare, with_let, with_lets, lets_among, written_text, written, written_let, written_assertion}
 use Rattle.schematron_meaning.specs.Written.{written_puts, written_rule, is_let_or_rule, written_items, outer_scope, pattern_scope, written_pattern}
 use Rattle.schematron_meaning.specs.Faults.{expression_fault, fault_of_written}
@@ -106,22 +106,24 @@ steady_inside : (is_so : ℕ → Bool) (ps qs : List Parameter) (test : Role →
     → Each (λ (e : Entry). IsSteady is_so ps qs e × ((test e.role && nat_eq e.parent n) ≡ true)) (inside test es n)
 steady_inside is_so ps qs test n es steady = each-filter (IsSteady is_so ps qs) (λ (e : Entry). test e.role && nat_eq e.parent n) es steady
 
-again_put : (is_so : ℕ → Bool) (ps qs : List Parameter) (es : List Entry) (all before : Declared) (put : Put) (t : Option ℕ) → Each (IsSteady is_so ps qs) es
-    → IsSteady is_so ps qs put.entry
-    → Pairs (Repeats is_so) (written_put es ps all before put) (written_put es qs all before (put_at_stand t put.entry))
-again_put is_so ps qs es all before put t steady h = by (is_let put.entry.role)
+again_put : (is_so : ℕ → Bool) (ps qs : List Parameter) (es : List Entry) (all before : Declared) (inclusion : Inclusion) (t : Option ℕ)
+    → Each (IsSteady is_so ps qs) es
+    → IsSteady is_so ps qs inclusion.entry
+    → Pairs (Repeats is_so) (written_put es ps all before inclusion) (written_put es qs all before (put_at_stand t inclusion.entry))
+again_put is_so ps qs es all before inclusion t steady h = by (is_let inclusion.entry.role)
   where
     by : (test : Bool)
         → Pairs (Repeats is_so) (elim test as
-        (λ _. List Written) [ true ↦ written_let put.stand ps before put.entry | false ↦ written_assertion es ps all put ])
-        (elim test as (λ _. List Written) [ true ↦ written_let t qs before put.entry | false ↦ written_assertion es qs all (put_at_stand t put.entry) ])
-    by true = again_written is_so ps qs a.Value false put.stand t before put.entry refl h
-    by false = pairs-append (Repeats is_so) (written a.Test false put.stand ps all put.entry) _ (written a.Test false t qs all put.entry) _
-        (again_written is_so ps qs a.Test false put.stand t all put.entry refl h)
-        (again_parts is_so ps qs put.stand t all (inside is_part es put.entry.number)
-        (each-weaker (λ (e : Entry). IsSteady is_so ps qs e × ((is_part e.role && nat_eq e.parent put.entry.number) ≡ true)) (IsSteady is_so ps qs)
-        (inside is_part es put.entry.number) (λ e k. k.0)
-        (steady_inside is_so ps qs is_part put.entry.number es steady)))
+        (λ _. List Written) [ true ↦ written_let inclusion.stand ps before inclusion.entry | false ↦ written_assertion es ps all inclusion ])
+        (elim test as (λ _. List Written) [ true ↦ written_let t qs before inclusion.entry | false ↦ written_assertion es qs all (put_at_stand t
+            inclusion.entry) ])
+    by true = again_written is_so ps qs a.Value false inclusion.stand t before inclusion.entry refl h
+    by false = pairs-append (Repeats is_so) (written a.Test false inclusion.stand ps all inclusion.entry) _ (written a.Test false t qs all inclusion.entry) _
+        (again_written is_so ps qs a.Test false inclusion.stand t all inclusion.entry refl h)
+        (again_parts is_so ps qs inclusion.stand t all (inside is_part es inclusion.entry.number)
+        (each-weaker (λ (e : Entry). IsSteady is_so ps qs e × ((is_part e.role && nat_eq e.parent inclusion.entry.number) ≡ true)) (IsSteady is_so ps qs)
+        (inside is_part es inclusion.entry.number) (λ e k. k.0)
+        (steady_inside is_so ps qs is_part inclusion.entry.number es steady)))
 
 same_entry_scope : (is_so : ℕ → Bool) (ps qs : List Parameter) (before : Declared) (e : Entry) → IsSteady is_so ps qs e
     → with_entry ps before e ≡ with_entry qs before e
@@ -135,7 +137,7 @@ same_entry_scope is_so ps qs before e steady = by (is_let e.role) refl
 
 -- ---- what is put in a rule
 
-abbrev SamePut : Put → Put → Type 0
+abbrev SamePut : Inclusion → Inclusion → Type 0
 SamePut p q = q.entry ≡ p.entry
 
 same_put_at : (file : File) (s t : ℕ) (rule : Option ℕ) → Pairs SamePut (put_at file (Some s) rule) (put_at file (Some t) rule)
@@ -150,7 +152,7 @@ same_by : (role : Role) (file : File) (s t : ℕ) (e : Entry) → Pairs SamePut 
 same_by r.Extends file s t e = same_put_at file s t (put_by file.rules e)
 same_by _ file s t e = (refl, tt)
 
-same_puts : (file : File) (s t n : ℕ) → Pairs SamePut (puts file (Some s) n) (puts file (Some t) n)
+same_puts : (file : File) (s t n : ℕ) → Pairs SamePut (inclusions file (Some s) n) (inclusions file (Some t) n)
 same_puts file s t n = pairs-flat_map SamePut (λ (e : Entry). puts_by e.role file (Some s) e) (λ (e : Entry). puts_by e.role file (Some t) e)
     (inside is_item file.entries n)
     (each_all (λ (e : Entry). Pairs SamePut (puts_by e.role file (Some s) e) (puts_by e.role file (Some t) e)) (inside is_item file.entries n)
@@ -165,28 +167,32 @@ each_found P test (e ∷ es) h = by (test e) (each_found P test es h.1)
     by true rest = (h.0, tt)
     by false rest = rest
 
-each_put_at : (P : Entry → Type 0) (file : File) (stand rule : Option ℕ) → Each P file.entries → Each (λ (put : Put). P put.entry) (put_at file stand rule)
+each_put_at : (P : Entry → Type 0) (file : File) (stand rule : Option ℕ) → Each P file.entries
+    → Each (λ (inclusion : Inclusion). P inclusion.entry) (put_at file stand rule)
 each_put_at P file stand None h = tt
-each_put_at P file stand (Some rule) h = each-flat_map (λ (put : Put). P put.entry) (λ (thing : Thing). map (put_at_stand stand)
+each_put_at P file stand (Some rule) h = each-flat_map (λ (inclusion : Inclusion). P inclusion.entry) (λ (thing : Thing). map (put_at_stand stand)
     (at_node file.entries thing.number)) (things_put file.bodies rule)
-    (each_all (λ (thing : Thing). Each (λ (put : Put). P put.entry) (map (put_at_stand stand) (at_node file.entries thing.number)))
+    (each_all (λ (thing : Thing). Each (λ (inclusion : Inclusion). P inclusion.entry) (map (put_at_stand stand) (at_node file.entries thing.number)))
     (things_put file.bodies rule)
-    (λ thing. each-map (λ (put : Put). P put.entry) (put_at_stand stand) (at_node file.entries thing.number) (each_found P
+    (λ thing. each-map (λ (inclusion : Inclusion). P inclusion.entry) (put_at_stand stand) (at_node file.entries thing.number) (each_found P
     (λ (e : Entry). nat_eq e.number thing.number) file.entries h)))
 
 each_by : (P : Entry → Type 0) (role : Role) (file : File) (stand : Option ℕ) (e : Entry) → Each P file.entries → P e
-    → Each (λ (put : Put). P put.entry) (puts_by role file stand e)
+    → Each (λ (inclusion : Inclusion). P inclusion.entry) (puts_by role file stand e)
 each_by P r.Extends file stand e h k = each_put_at P file _ (put_by file.rules e) h
 each_by P _ file stand e h k = (k, tt)
 
-each_put : (P : Entry → Type 0) (file : File) (stand : Option ℕ) (n : ℕ) → Each P file.entries → Each (λ (put : Put). P put.entry) (puts file stand n)
-each_put P file stand n h = each-flat_map (λ (put : Put). P put.entry) (λ (e : Entry). puts_by e.role file stand e) (inside is_item file.entries n)
-    (each-weaker (λ (e : Entry). P e × ((is_item e.role && nat_eq e.parent n) ≡ true)) (λ (e : Entry). Each (λ (put : Put). P put.entry)
+each_put : (P : Entry → Type 0) (file : File) (stand : Option ℕ) (n : ℕ) → Each P file.entries
+    → Each (λ (inclusion : Inclusion). P inclusion.entry) (inclusions file stand n)
+each_put P file stand n h = each-flat_map (λ (inclusion : Inclusion). P inclusion.entry) (λ (e : Entry). puts_by e.role file stand e) (inside is_item
+    file.entries n)
+    (each-weaker (λ (e : Entry). P e × ((is_item e.role && nat_eq e.parent n) ≡ true)) (λ (e : Entry). Each (λ (inclusion : Inclusion). P inclusion.entry)
     (puts_by e.role file stand e)) (inside is_item file.entries n)
     (λ e k. each_by P e.role file stand e h k.0) (each-filter P (λ (e : Entry). is_item e.role && nat_eq e.parent n) file.entries h))
 
 module _ (is_so : ℕ → Bool) (ps qs : List Parameter) where
-  same_lets : (scope : Declared) (found others : List Put) → Pairs SamePut found others → Each (λ (put : Put). IsSteady is_so ps qs put.entry) found
+  same_lets : (scope : Declared) (found others : List Inclusion) → Pairs SamePut found others
+      → Each (λ (inclusion : Inclusion). IsSteady is_so ps qs inclusion.entry) found
       → with_lets ps scope (lets_among found) ≡ with_lets qs scope (lets_among others)
   same_lets scope [] [] h k = refl
   same_lets scope [] (q ∷ others) h k = absurd h
@@ -196,8 +202,8 @@ module _ (is_so : ℕ → Bool) (ps qs : List Parameter) where
       ∙ (ap (λ (d : Declared). with_lets qs d (lets_among others)) (same_entry_scope is_so ps qs scope p.entry k.0 ∙ ap (with_entry qs scope) (sym h.0)) ∙ sym
       (lets_next qs scope q others)))
 
-  again_puts : (es : List Entry) (all before : Declared) (found others : List Put) → Each (IsSteady is_so ps qs) es → Pairs SamePut found others
-      → Each (λ (put : Put). IsSteady is_so ps qs put.entry) found
+  again_puts : (es : List Entry) (all before : Declared) (found others : List Inclusion) → Each (IsSteady is_so ps qs) es → Pairs SamePut found others
+      → Each (λ (inclusion : Inclusion). IsSteady is_so ps qs inclusion.entry) found
       → Pairs (Repeats is_so) (written_puts es ps all before found) (written_puts es qs all before others)
   again_puts es all before [] [] steady h k = tt
   again_puts es all before [] (q ∷ others) steady h k = absurd h
@@ -220,11 +226,11 @@ again_rule : (is_so : ℕ → Bool) (file : File) (i j : Instance) (s t : ℕ) (
     → Each (IsSteady is_so i.params j.params) file.entries
     → IsSteady is_so i.params j.params rule → Pairs (Repeats is_so) (written_rule file i outer rule) (written_rule file j outer rule)
 again_rule is_so file i j s t outer rule p q steady h =
-    let found : List Put = puts file i.stand rule.number in
-    let others : List Put = puts file j.stand rule.number in
-    let same : Pairs SamePut found others = subst (λ (x : Option ℕ). Pairs SamePut (puts file x rule.number) others) (sym p) (subst
-    (λ (y : Option ℕ). Pairs SamePut (puts file (Some s) rule.number) (puts file y rule.number)) (sym q) (same_puts file s t rule.number)) in
-    let each : Each (λ (put : Put). IsSteady is_so i.params j.params put.entry) found = each_put
+    let found : List Inclusion = inclusions file i.stand rule.number in
+    let others : List Inclusion = inclusions file j.stand rule.number in
+    let same : Pairs SamePut found others = subst (λ (x : Option ℕ). Pairs SamePut (inclusions file x rule.number) others) (sym p) (subst
+    (λ (y : Option ℕ). Pairs SamePut (inclusions file (Some s) rule.number) (inclusions file y rule.number)) (sym q) (same_puts file s t rule.number)) in
+    let each : Each (λ (inclusion : Inclusion). IsSteady is_so i.params j.params inclusion.entry) found = each_put
     (IsSteady is_so i.params j.params) file i.stand rule.number steady in
     pairs-append (Repeats is_so) (written a.Context true i.stand i.params outer rule) (written_puts file.entries i.params (with_lets i.params outer
     (lets_among found)) outer found)

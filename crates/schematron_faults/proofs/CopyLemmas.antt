@@ -11,7 +11,7 @@ use Rattle.schematron_meaning.specs.declared.fault.ExpressionFault.{ExpressionFa
 use Rattle.schematron_meaning.specs.Entries.{Entry}
 use Rattle.schematron_meaning.specs.Lookup.{attribute, is_let, is_part, inside}
 use Rattle.schematron_texts.specs.Replacing.{Parameter, replaced}
-use Rattle.schematron_meaning.specs.Expansion.{Put, put_at_stand, or_itself}
+use Rattle.schematron_meaning.specs.Expansion.{Inclusion, put_at_stand, or_itself}
 use Rattle.schematron_meaning.specs.Written.{Written, name_of, with_let, with_lets, lets_among, written_text, written, written_let, written_assertion}
 use Rattle.schematron_meaning.specs.Written.{written_puts}
 use Rattle.schematron_meaning.specs.Faults.{expression_fault, fault_of_written}
@@ -135,29 +135,30 @@ later_put keeps es params all before wider s t e l w = by (is_let e.role)
 
 -- ---- the next of what is put
 
-pub puts_next : (es : List Entry) (params : List Parameter) (all before : Declared) (put : Put) (puts : List Put)
-    → written_puts es params all before (put ∷ puts) ≡ written_put es params all before put ++
-    written_puts es params all (with_entry params before put.entry) puts
-puts_next es params all before put puts = by (is_let put.entry.role)
+pub puts_next : (es : List Entry) (params : List Parameter) (all before : Declared) (inclusion : Inclusion) (inclusions : List Inclusion)
+    → written_puts es params all before (inclusion ∷ inclusions) ≡ written_put es params all before inclusion ++
+    written_puts es params all (with_entry params before inclusion.entry) inclusions
+puts_next es params all before inclusion inclusions = by (is_let inclusion.entry.role)
   where
     by : (test : Bool)
         → (elim test as (λ _. List Written) [
-          | true ↦ written_let put.stand params before put.entry ++
-              written_puts es params all (with_let params before put.entry) puts
-          | false ↦ written_assertion es params all put ++
-              written_puts es params all before puts
+          | true ↦ written_let inclusion.stand params before inclusion.entry ++
+              written_puts es params all (with_let params before inclusion.entry) inclusions
+          | false ↦ written_assertion es params all inclusion ++
+              written_puts es params all before inclusions
         ])
-        ≡ (elim test as (λ _. List Written) [ true ↦ written_let put.stand params before put.entry | false ↦ written_assertion es params all put ])
-        ++ written_puts es params all (elim test as (λ _. Declared) [ true ↦ with_let params before put.entry | false ↦ before ]) puts
+        ≡ (elim test as (λ _. List Written) [ true ↦ written_let inclusion.stand params before inclusion.entry | false ↦ written_assertion es params all
+            inclusion ])
+        ++ written_puts es params all (elim test as (λ _. Declared) [ true ↦ with_let params before inclusion.entry | false ↦ before ]) inclusions
     by true = refl
     by false = refl
 
-pub lets_next : (params : List Parameter) (scope : Declared) (put : Put) (puts : List Put) →
-    with_lets params scope (lets_among (put ∷ puts)) ≡ with_lets params (with_entry params scope put.entry) (lets_among puts)
-lets_next params scope put puts = by (is_let put.entry.role)
+pub lets_next : (params : List Parameter) (scope : Declared) (inclusion : Inclusion) (inclusions : List Inclusion) →
+    with_lets params scope (lets_among (inclusion ∷ inclusions)) ≡ with_lets params (with_entry params scope inclusion.entry) (lets_among inclusions)
+lets_next params scope inclusion inclusions = by (is_let inclusion.entry.role)
   where
-    by : (test : Bool) → with_lets params scope (cond test (put.entry ∷ lets_among puts) (lets_among puts)) ≡ with_lets params
-        (elim test as (λ _. Declared) [ true ↦ with_let params scope put.entry | false ↦ scope ]) (lets_among puts)
+    by : (test : Bool) → with_lets params scope (cond test (inclusion.entry ∷ lets_among inclusions) (lets_among inclusions)) ≡ with_lets params
+        (elim test as (λ _. Declared) [ true ↦ with_let params scope inclusion.entry | false ↦ scope ]) (lets_among inclusions)
     by true = refl
     by false = refl
 
@@ -207,79 +208,88 @@ settled_scope es params told scope e is settled t = by (is_let e.role) refl
 -- ---- the lets are the same
 
 -- what is known of something that is put: it is the file's, and whether it is put by another element
-abbrev pub Known : List Entry → (Entry → Bool) → Put → Type 0
-Known es is_put put = IsOf es put.entry × (is_some put.stand ≡ is_put put.entry)
+abbrev pub Known : List Entry → (Entry → Bool) → Inclusion → Type 0
+Known es is_put inclusion = IsOf es inclusion.entry × (is_some inclusion.stand ≡ is_put inclusion.entry)
 
-first_lets_behind : (es : List Entry) (is_put : Entry → Bool) (params : List Parameter) (told : List ℕ) (scope : Declared) (puts : List Put) →
-    Settled es params told scope → Each (Known es is_put) puts
-    → with_lets params scope (lets_among (first_puts_behind told puts)) ≡ with_lets params scope (lets_among puts)
+first_lets_behind : (es : List Entry) (is_put : Entry → Bool) (params : List Parameter) (told : List ℕ) (scope : Declared) (inclusions : List Inclusion) →
+    Settled es params told scope → Each (Known es is_put) inclusions
+    → with_lets params scope (lets_among (first_puts_behind told inclusions)) ≡ with_lets params scope (lets_among inclusions)
 first_lets_behind es is_put params told scope [] settled known = refl
-first_lets_behind es is_put params told scope (put ∷ puts) settled known = by (is_told put.entry.number told) refl
-    (first_lets_behind es is_put params told scope puts settled known.1)
-    (first_lets_behind es is_put params (put.entry.number ∷ told) (with_entry params scope put.entry) puts
-    (settled_more es params told scope put.entry known.0.0 settled) known.1)
+first_lets_behind es is_put params told scope (inclusion ∷ inclusions) settled known = by (is_told inclusion.entry.number told) refl
+    (first_lets_behind es is_put params told scope inclusions settled known.1)
+    (first_lets_behind es is_put params (inclusion.entry.number ∷ told) (with_entry params scope inclusion.entry) inclusions
+    (settled_more es params told scope inclusion.entry known.0.0 settled) known.1)
   where
-    by : (test : Bool) → is_told put.entry.number told ≡ test
-        → with_lets params scope (lets_among (first_puts_behind told puts)) ≡ with_lets params scope (lets_among puts)
-        → with_lets params (with_entry params scope put.entry) (lets_among (first_puts_behind (put.entry.number ∷ told) puts)) ≡ with_lets params
-        (with_entry params scope put.entry) (lets_among puts)
+    by : (test : Bool) → is_told inclusion.entry.number told ≡ test
+        → with_lets params scope (lets_among (first_puts_behind told inclusions)) ≡ with_lets params scope (lets_among inclusions)
+        → with_lets params (with_entry params scope inclusion.entry) (lets_among (first_puts_behind (inclusion.entry.number ∷ told) inclusions))
+            ≡ with_lets params
+        (with_entry params scope inclusion.entry) (lets_among inclusions)
         → with_lets params scope
-        (lets_among (elim test as (λ _. List Put) [ true ↦ first_puts_behind told puts | false ↦ put ∷ first_puts_behind (put.entry.number ∷ told) puts ]))
-        ≡ with_lets params scope (lets_among (put ∷ puts))
-    by true t same new = same ∙ (ap (λ (s : Declared). with_lets params s (lets_among puts))
-        (sym (settled_scope es params told scope put.entry known.0.0 settled t)) ∙ sym (lets_next params scope put puts))
-    by false t same new = lets_next params scope put (first_puts_behind (put.entry.number ∷ told) puts) ∙ (new ∙ sym (lets_next params scope put puts))
+        (lets_among (elim test as (λ _. List Inclusion) [ true ↦ first_puts_behind told inclusions | false ↦ inclusion ∷ first_puts_behind
+            (inclusion.entry.number ∷ told) inclusions ]))
+        ≡ with_lets params scope (lets_among (inclusion ∷ inclusions))
+    by true t same new = same ∙ (ap (λ (s : Declared). with_lets params s (lets_among inclusions))
+        (sym (settled_scope es params told scope inclusion.entry known.0.0 settled t)) ∙ sym (lets_next params scope inclusion inclusions))
+    by false t same new = lets_next params scope inclusion (first_puts_behind (inclusion.entry.number ∷ told) inclusions) ∙ (new
+        ∙ sym (lets_next params scope inclusion inclusions))
 
 -- first copies declare what all do
-pub first_lets : (es : List Entry) (is_put : Entry → Bool) (params : List Parameter) (scope : Declared) (puts : List Put) → Each (Known es is_put) puts
-    → with_lets params scope (lets_among (first_puts puts)) ≡ with_lets params scope (lets_among puts)
-first_lets es is_put params scope puts known = first_lets_behind es is_put params [] scope puts (λ n e t g l. absurd (false≢true t)) known
+pub first_lets : (es : List Entry) (is_put : Entry → Bool) (params : List Parameter) (scope : Declared) (inclusions : List Inclusion)
+    → Each (Known es is_put) inclusions
+    → with_lets params scope (lets_among (first_puts inclusions)) ≡ with_lets params scope (lets_among inclusions)
+first_lets es is_put params scope inclusions known = first_lets_behind es is_put params [] scope inclusions (λ n e t g l. absurd (false≢true t)) known
 
 -- ---- what holds of all copies holds of the first
 
 first_each_behind : (P : Written → Type 0) (es : List Entry) (is_put : Entry → Bool) (params : List Parameter) (all : Declared) (told : List ℕ)
-    (before : Declared) (puts : List Put)
-    → Settled es params told before → Each (Known es is_put) puts → Each P (written_puts es params all before puts) →
-    Each P (written_puts es params all before (first_puts_behind told puts))
+    (before : Declared) (inclusions : List Inclusion)
+    → Settled es params told before → Each (Known es is_put) inclusions → Each P (written_puts es params all before inclusions) →
+    Each P (written_puts es params all before (first_puts_behind told inclusions))
 first_each_behind P es is_put params all told before [] settled known h = tt
-first_each_behind P es is_put params all told before (put ∷ puts) settled known h = by (is_told put.entry.number told) refl
-    (λ (scope : Declared) same others. first_each_behind P es is_put params all told before puts settled known.1
-    (subst (λ (s : Declared). Each P (written_puts es params all s puts)) same others))
-    (first_each_behind P es is_put params all (put.entry.number ∷ told) (with_entry params before put.entry) puts
-    (settled_more es params told before put.entry known.0.0 settled) known.1)
+first_each_behind P es is_put params all told before (inclusion ∷ inclusions) settled known h = by (is_told inclusion.entry.number told) refl
+    (λ (scope : Declared) same others. first_each_behind P es is_put params all told before inclusions settled known.1
+    (subst (λ (s : Declared). Each P (written_puts es params all s inclusions)) same others))
+    (first_each_behind P es is_put params all (inclusion.entry.number ∷ told) (with_entry params before inclusion.entry) inclusions
+    (settled_more es params told before inclusion.entry known.0.0 settled) known.1)
   where
-    both : Each P (written_put es params all before put ++ written_puts es params all (with_entry params before put.entry) puts)
-    both = subst (Each P) (puts_next es params all before put puts) h
+    both : Each P (written_put es params all before inclusion ++ written_puts es params all (with_entry params before inclusion.entry) inclusions)
+    both = subst (Each P) (puts_next es params all before inclusion inclusions) h
 
-    rest : Each P (written_puts es params all (with_entry params before put.entry) puts)
-    rest = each-behind P (written_put es params all before put) (written_puts es params all (with_entry params before put.entry) puts) both
+    rest : Each P (written_puts es params all (with_entry params before inclusion.entry) inclusions)
+    rest = each-behind P (written_put es params all before inclusion) (written_puts es params all (with_entry params before inclusion.entry) inclusions) both
 
-    by : (test : Bool) → is_told put.entry.number told ≡ test
-        → ((scope : Declared) → scope ≡ before → Each P (written_puts es params all scope puts) →
-        Each P (written_puts es params all before (first_puts_behind told puts)))
-        → (Each P (written_puts es params all (with_entry params before put.entry) puts) →
-        Each P (written_puts es params all (with_entry params before put.entry) (first_puts_behind (put.entry.number ∷ told) puts)))
+    by : (test : Bool) → is_told inclusion.entry.number told ≡ test
+        → ((scope : Declared) → scope ≡ before → Each P (written_puts es params all scope inclusions) →
+        Each P (written_puts es params all before (first_puts_behind told inclusions)))
+        → (Each P (written_puts es params all (with_entry params before inclusion.entry) inclusions) →
+        Each P (written_puts es params all (with_entry params before inclusion.entry) (first_puts_behind (inclusion.entry.number ∷ told) inclusions)))
         → Each P (written_puts es params all before
-        (elim test as (λ _. List Put) [ true ↦ first_puts_behind told puts | false ↦ put ∷ first_puts_behind (put.entry.number ∷ told) puts ]))
-    by true t same new = same (with_entry params before put.entry) (settled_scope es params told before put.entry known.0.0 settled t) rest
-    by false t same new = subst (Each P) (sym (puts_next es params all before put (first_puts_behind (put.entry.number ∷ told) puts)))
-        (each-append P (written_put es params all before put)
-        (written_puts es params all (with_entry params before put.entry) (first_puts_behind (put.entry.number ∷ told) puts))
-        (each-front P (written_put es params all before put) (written_puts es params all (with_entry params before put.entry) puts) both) (new rest))
+        (elim test as (λ _. List Inclusion) [ true ↦ first_puts_behind told inclusions | false ↦ inclusion ∷ first_puts_behind (inclusion.entry.number ∷ told)
+            inclusions ]))
+    by true t same new = same (with_entry params before inclusion.entry) (settled_scope es params told before inclusion.entry known.0.0 settled t) rest
+    by false t same new = subst (Each P) (sym (puts_next es params all before inclusion (first_puts_behind (inclusion.entry.number ∷ told) inclusions)))
+        (each-append P (written_put es params all before inclusion)
+        (written_puts es params all (with_entry params before inclusion.entry) (first_puts_behind (inclusion.entry.number ∷ told) inclusions))
+        (each-front P (written_put es params all before inclusion) (written_puts es params all (with_entry params before inclusion.entry) inclusions) both)
+            (new rest))
 
-pub first_each : (P : Written → Type 0) (es : List Entry) (is_put : Entry → Bool) (params : List Parameter) (all before : Declared) (puts : List Put)
-    → Each (Known es is_put) puts → Each P (written_puts es params all before puts) → Each P (written_puts es params all before (first_puts puts))
-first_each P es is_put params all before puts known h = first_each_behind P es is_put params all [] before puts (λ n e t g l. absurd (false≢true t)) known h
+pub first_each : (P : Written → Type 0) (es : List Entry) (is_put : Entry → Bool) (params : List Parameter) (all before : Declared) (inclusions : List
+    Inclusion)
+    → Each (Known es is_put) inclusions → Each P (written_puts es params all before inclusions)
+        → Each P (written_puts es params all before (first_puts inclusions))
+first_each P es is_put params all before inclusions known h = first_each_behind P es is_put params all [] before inclusions (λ n e t g l. absurd (false≢true
+    t)) known h
 
 -- ---- and so is the soonest fault
 
-abbrev pub stand_of : Put → ℕ
-stand_of put = or_itself put.stand put.entry.number
+abbrev pub stand_of : Inclusion → ℕ
+stand_of inclusion = or_itself inclusion.stand inclusion.entry.number
 
 -- The elements at which they stand don't come before one another, nor before the first number.
-abbrev pub Climbs : ℕ → List Put → Type 0
+abbrev pub Climbs : ℕ → List Inclusion → Type 0
 Climbs low [] = Unit {0}
-Climbs low (put ∷ puts) = (low ≤ stand_of put) × Climbs (stand_of put) puts
+Climbs low (inclusion ∷ inclusions) = (low ≤ stand_of inclusion) × Climbs (stand_of inclusion) inclusions
 
 -- What was told is covered, wherever it is put again from an element on, in whatever wider scope.
 abbrev Covered : List Entry → (Entry → Bool) → List Parameter → Declared → List ℕ → ℕ → Option Found → Option ℕ → Declared → Type 0
@@ -288,24 +298,24 @@ Covered es is_put params all told low best last before = (n : ℕ) (e : Entry) (
     → is_some stand ≡ is_put e → Wider before wider → Covers best (least (up_to last (written_put es params all wider (put_at_stand stand e))))
 
 covered_more : Keeps → (es : List Entry) (is_put : Entry → Bool) (params : List Parameter) (all : Declared) (told : List ℕ) (low : ℕ) (best : Option Found)
-    (last : Option ℕ) (before : Declared) (put : Put)
-    → Known es is_put put → low ≤ stand_of put → Covered es is_put params all told low best last before
-    → Covered es is_put params all (put.entry.number ∷ told) (stand_of put) (soonest best last (written_put es params all before put)) last
-    (with_entry params before put.entry)
-covered_more keeps es is_put params all told low best last before put known l cover n f stand wider t g k s w = ⊎_elim
-    (λ (here : nat_eq n put.entry.number ≡ true). let same : put.entry ≡ f = same_entry es n put.entry f known.0 here g in
-    subst (λ (x : Entry). Covers (soonest best last (written_put es params all before put))
+    (last : Option ℕ) (before : Declared) (inclusion : Inclusion)
+    → Known es is_put inclusion → low ≤ stand_of inclusion → Covered es is_put params all told low best last before
+    → Covered es is_put params all (inclusion.entry.number ∷ told) (stand_of inclusion) (soonest best last (written_put es params all before inclusion)) last
+    (with_entry params before inclusion.entry)
+covered_more keeps es is_put params all told low best last before inclusion known l cover n f stand wider t g k s w = ⊎_elim
+    (λ (here : nat_eq n inclusion.entry.number ≡ true). let same : inclusion.entry ≡ f = same_entry es n inclusion.entry f known.0 here g in
+    subst (λ (x : Entry). Covers (soonest best last (written_put es params all before inclusion))
     (least (up_to last (written_put es params all wider (put_at_stand stand x))))) same
-    (covered best last (written_put es params all before put) (written_put es params all wider (put_at_stand stand put.entry))
-    (later_put keeps es params all before wider put.stand stand put.entry
-    (not_before put.stand stand put.entry.number (known.1 ∙ (ap is_put same ∙ sym s))
-    (subst (λ (x : Entry). stand_of put ≤ or_itself stand x.number) (sym same) k))
-    (wider-trans before (with_entry params before put.entry) wider (wider_entry params before put.entry) w))))
-    (λ (there : is_told n told ≡ true). covers-sooner best (least (up_to last (written_put es params all before put)))
+    (covered best last (written_put es params all before inclusion) (written_put es params all wider (put_at_stand stand inclusion.entry))
+    (later_put keeps es params all before wider inclusion.stand stand inclusion.entry
+    (not_before inclusion.stand stand inclusion.entry.number (known.1 ∙ (ap is_put same ∙ sym s))
+    (subst (λ (x : Entry). stand_of inclusion ≤ or_itself stand x.number) (sym same) k))
+    (wider-trans before (with_entry params before inclusion.entry) wider (wider_entry params before inclusion.entry) w))))
+    (λ (there : is_told n told ≡ true). covers-sooner best (least (up_to last (written_put es params all before inclusion)))
     (least (up_to last (written_put es params all wider (put_at_stand stand f))))
     (cover n f stand wider there g (omega (arith, l, k)) s
-    (wider-trans before (with_entry params before put.entry) wider (wider_entry params before put.entry) w)))
-    (or_cases (nat_eq n put.entry.number) (is_told n told) t)
+    (wider-trans before (with_entry params before inclusion.entry) wider (wider_entry params before inclusion.entry) w)))
+    (or_cases (nat_eq n inclusion.entry.number) (is_told n told) t)
 
 covered_from : (es : List Entry) (is_put : Entry → Bool) (params : List Parameter) (all : Declared) (told : List ℕ) (low from : ℕ) (best : Option Found)
     (last : Option ℕ) (before : Declared) → low ≤ from
@@ -313,44 +323,51 @@ covered_from : (es : List Entry) (is_put : Entry → Bool) (params : List Parame
 covered_from es is_put params all told low from best last before l cover n f stand wider t g k s w = cover n f stand wider t g (omega (arith, l, k)) s w
 
 first_copies_behind : Keeps → (es : List Entry) (is_put : Entry → Bool) (params : List Parameter) (all : Declared) (told : List ℕ) (low : ℕ)
-    (best : Option Found) (last : Option ℕ) (before : Declared) (puts : List Put)
-    → Settled es params told before → Covered es is_put params all told low best last before → Climbs low puts → Each (Known es is_put) puts
-    → soonest best last (written_puts es params all before (first_puts_behind told puts)) ≡ soonest best last (written_puts es params all before puts)
+    (best : Option Found) (last : Option ℕ) (before : Declared) (inclusions : List Inclusion)
+    → Settled es params told before → Covered es is_put params all told low best last before → Climbs low inclusions → Each (Known es is_put) inclusions
+    → soonest best last (written_puts es params all before (first_puts_behind told inclusions))
+        ≡ soonest best last (written_puts es params all before inclusions)
 first_copies_behind keeps es is_put params all told low best last before [] settled cover climbs known = refl
-first_copies_behind keeps es is_put params all told low best last before (put ∷ puts) settled cover climbs known = by (is_told put.entry.number told) refl
-    (first_copies_behind keeps es is_put params all told (stand_of put) best last before puts settled
-    (covered_from es is_put params all told low (stand_of put) best last before climbs.0 cover) climbs.1 known.1)
-    (first_copies_behind keeps es is_put params all (put.entry.number ∷ told) (stand_of put) (soonest best last (written_put es params all before put)) last
-    (with_entry params before put.entry) puts
-    (settled_more es params told before put.entry known.0.0 settled)
-    (covered_more keeps es is_put params all told low best last before put known.0 climbs.0 cover) climbs.1 known.1)
+first_copies_behind keeps es is_put params all told low best last before (inclusion ∷ inclusions) settled cover climbs known = by (is_told
+    inclusion.entry.number told) refl
+    (first_copies_behind keeps es is_put params all told (stand_of inclusion) best last before inclusions settled
+    (covered_from es is_put params all told low (stand_of inclusion) best last before climbs.0 cover) climbs.1 known.1)
+    (first_copies_behind keeps es is_put params all (inclusion.entry.number ∷ told) (stand_of inclusion) (soonest best last (written_put es params all before
+        inclusion)) last
+    (with_entry params before inclusion.entry) inclusions
+    (settled_more es params told before inclusion.entry known.0.0 settled)
+    (covered_more keeps es is_put params all told low best last before inclusion known.0 climbs.0 cover) climbs.1 known.1)
   where
-    all_next : (others : List Put) → soonest best last (written_puts es params all before (put ∷ others)) ≡ soonest
-        (soonest best last (written_put es params all before put)) last (written_puts es params all (with_entry params before put.entry) others)
-    all_next others = ap (soonest best last) (puts_next es params all before put others) ∙
-        soonest-append best last (written_put es params all before put) (written_puts es params all (with_entry params before put.entry) others)
+    all_next : (others : List Inclusion) → soonest best last (written_puts es params all before (inclusion ∷ others)) ≡ soonest
+        (soonest best last (written_put es params all before inclusion)) last (written_puts es params all (with_entry params before inclusion.entry) others)
+    all_next others = ap (soonest best last) (puts_next es params all before inclusion others) ∙
+        soonest-append best last (written_put es params all before inclusion) (written_puts es params all (with_entry params before inclusion.entry) others)
 
-    by : (test : Bool) → is_told put.entry.number told ≡ test
-        → soonest best last (written_puts es params all before (first_puts_behind told puts)) ≡ soonest best last (written_puts es params all before puts)
-        → soonest (soonest best last (written_put es params all before put)) last
-        (written_puts es params all (with_entry params before put.entry) (first_puts_behind (put.entry.number ∷ told) puts))
-        ≡ soonest (soonest best last (written_put es params all before put)) last (written_puts es params all (with_entry params before put.entry) puts)
+    by : (test : Bool) → is_told inclusion.entry.number told ≡ test
+        → soonest best last (written_puts es params all before (first_puts_behind told inclusions))
+            ≡ soonest best last (written_puts es params all before inclusions)
+        → soonest (soonest best last (written_put es params all before inclusion)) last
+        (written_puts es params all (with_entry params before inclusion.entry) (first_puts_behind (inclusion.entry.number ∷ told) inclusions))
+        ≡ soonest (soonest best last (written_put es params all before inclusion)) last (written_puts es params all (with_entry params before inclusion.entry)
+            inclusions)
         → soonest best last (written_puts es params all before
-        (elim test as (λ _. List Put) [ true ↦ first_puts_behind told puts | false ↦ put ∷ first_puts_behind (put.entry.number ∷ told) puts ]))
-        ≡ soonest best last (written_puts es params all before (put ∷ puts))
-    by true t same new = same ∙ (sym (ap (λ (x : Option Found). soonest x last (written_puts es params all before puts))
-        (covers_keeps best (least (up_to last (written_put es params all before put)))
-        (cover put.entry.number put.entry put.stand before t known.0.0 climbs.0 known.0.1 (wider-refl before))))
-        ∙ (ap (λ (s : Declared). soonest (soonest best last (written_put es params all before put)) last (written_puts es params all s puts))
-        (sym (settled_scope es params told before put.entry known.0.0 settled t))
-        ∙ sym (all_next puts)))
-    by false t same new = all_next (first_puts_behind (put.entry.number ∷ told) puts) ∙ (new ∙ sym (all_next puts))
+        (elim test as (λ _. List Inclusion) [ true ↦ first_puts_behind told inclusions | false ↦ inclusion ∷ first_puts_behind (inclusion.entry.number ∷ told)
+            inclusions ]))
+        ≡ soonest best last (written_puts es params all before (inclusion ∷ inclusions))
+    by true t same new = same ∙ (sym (ap (λ (x : Option Found). soonest x last (written_puts es params all before inclusions))
+        (covers_keeps best (least (up_to last (written_put es params all before inclusion)))
+        (cover inclusion.entry.number inclusion.entry inclusion.stand before t known.0.0 climbs.0 known.0.1 (wider-refl before))))
+        ∙ (ap (λ (s : Declared). soonest (soonest best last (written_put es params all before inclusion)) last (written_puts es params all s inclusions))
+        (sym (settled_scope es params told before inclusion.entry known.0.0 settled t))
+        ∙ sym (all_next inclusions)))
+    by false t same new = all_next (first_puts_behind (inclusion.entry.number ∷ told) inclusions) ∙ (new ∙ sym (all_next inclusions))
 
 -- first copies have the soonest fault of all
 pub first_copies : Keeps → (es : List Entry) (is_put : Entry → Bool) (params : List Parameter) (all : Declared) (best : Option Found) (last : Option ℕ)
-    (before : Declared) (puts : List Put)
-    → Climbs 0 puts → Each (Known es is_put) puts → soonest best last (written_puts es params all before (first_puts puts)) ≡ soonest best last
-    (written_puts es params all before puts)
-first_copies keeps es is_put params all best last before puts climbs known =
-    first_copies_behind keeps es is_put params all [] 0 best last before puts (λ n e t g l. absurd (false≢true t))
+    (before : Declared) (inclusions : List Inclusion)
+    → Climbs 0 inclusions → Each (Known es is_put) inclusions → soonest best last (written_puts es params all before (first_puts inclusions))
+        ≡ soonest best last
+    (written_puts es params all before inclusions)
+first_copies keeps es is_put params all best last before inclusions climbs known =
+    first_copies_behind keeps es is_put params all [] 0 best last before inclusions (λ n e t g l. absurd (false≢true t))
     (λ n e s w t g k i h. absurd (false≢true t)) climbs known

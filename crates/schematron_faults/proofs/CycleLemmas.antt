@@ -167,7 +167,7 @@ module _ (es : List Entry) (rise : NumbersRise es) (follow : RulesFollow es) whe
     parent : e.parent ≡ rule.number
     back : list_any (is_back all place) (body_of all place) ≡ true
     extends : is_extends e.role ≡ true
-    puts : is_some (put_by rules e) ≡ true
+    inclusions : is_some (put_by rules e) ≡ true
 
   back_in : (e : Entry) → Contains es e → is_cycle_at e ≡ true → IsBackIn e
   back_in e inside h =
@@ -193,7 +193,7 @@ module _ (es : List Entry) (rise : NumbersRise es) (follow : RulesFollow es) whe
                 (none_in t rules e.parent es (sym (ap (list_any t) (body_is place w.1 there ∙ ap (λ n. body_at es rules n) w.4)) ∙ none)) inside
                 (item_extends e.role extends) refl));
             extends = extends;
-            puts = some_put t (put_by rules e) c;
+            inclusions = some_put t (put_by rules e) c;
           }
 
   -- ---- none
@@ -254,7 +254,7 @@ module _ (es : List Entry) (rise : NumbersRise es) (follow : RulesFollow es) whe
       let one : w.rule ≡ rule = some_same (sym w.there ∙ (ap (slice_get rules) same ∙ h)) in
       let in_it : x.parent ≡ rule.number = w.parent ∙ ap (λ (z : Entry). z.number) one in
       true≢false (sym (and_from (nat_eq x.parent rule.number) (is_putting x.role rules x) (eq-eqb x.parent rule.number in_it)
-      (putting_extends x.role rules x w.extends w.puts)) ∙ part_x))
+      (putting_extends x.role rules x w.extends w.inclusions)) ∙ part_x))
       (cases_lt n w.place))
       (cases_lt w.place n)
     where

@@ -9,7 +9,7 @@ use Rattle.schematron_texts.specs.Replacing.{Parameter}
 use Rattle.schematron_meaning.specs.declared.attribute.Attribute.TheVariants as a
 use Rattle.schematron_meaning.specs.Entries.{Entry}
 use Rattle.schematron_meaning.specs.Lookup.{is_let, is_phase, of_role, inside}
-use Rattle.schematron_meaning.specs.Expansion.{File, Put, Instance}
+use Rattle.schematron_meaning.specs.Expansion.{File, Inclusion, Instance}
 use Rattle.schematron_meaning.specs.Written.{Written, written, written_let, written_lets, with_let, with_lets, lets_among, written_puts, written_items}
 use Rattle.schematron_meaning.specs.Written.{written_pattern}
 use Rattle.schematron_expansion.specs.declared.instances.Instance.{Instance as Made}
@@ -51,20 +51,21 @@ parts_turn init s t whole stand params all e left rest l g h =
     goes_turn init s t whole (written_parts stand params all left) (written a.Select false stand params all e) (written_parts stand params all rest)
     (ap (written_parts stand params all) l) g h
 
-pub puts_turn : (init s t : Search) (whole : List Written) (es : List Entry) (params : List Parameter) (all before new : Declared) (put : Put)
-    (left rest : List Put) → left ≡ put ∷ rest → new ≡ with_entry params before put.entry
-    → Goes s t (written_put es params all before put) → ((u : Search) → Goes s u (written_puts es params all before left) → Goes init u whole) → (u : Search) →
+pub puts_turn : (init s t : Search) (whole : List Written) (es : List Entry) (params : List Parameter) (all before new : Declared) (inclusion : Inclusion)
+    (left rest : List Inclusion) → left ≡ inclusion ∷ rest → new ≡ with_entry params before inclusion.entry
+    → Goes s t (written_put es params all before inclusion) → ((u : Search) → Goes s u (written_puts es params all before left) → Goes init u whole)
+        → (u : Search) →
     Goes t u (written_puts es params all new rest) → Goes init u whole
-puts_turn init s t whole es params all before new put left rest l n g h =
-    goes_turn init s t whole (written_puts es params all before left) (written_put es params all before put) (written_puts es params all new rest)
-    (ap (written_puts es params all before) l ∙ (puts_next es params all before put rest ∙
-    ap (λ (d : Declared). written_put es params all before put ++ written_puts es params all d rest) (sym n))) g h
+puts_turn init s t whole es params all before new inclusion left rest l n g h =
+    goes_turn init s t whole (written_puts es params all before left) (written_put es params all before inclusion) (written_puts es params all new rest)
+    (ap (written_puts es params all before) l ∙ (puts_next es params all before inclusion rest ∙
+    ap (λ (d : Declared). written_put es params all before inclusion ++ written_puts es params all d rest) (sym n))) g h
 
-pub puts_scope_turn : (params : List Parameter) (before new whole : Declared) (put : Put) (left rest : List Put) → left ≡ put ∷ rest →
-    new ≡ with_entry params before put.entry
+pub puts_scope_turn : (params : List Parameter) (before new whole : Declared) (inclusion : Inclusion) (left rest : List Inclusion) → left ≡ inclusion ∷ rest →
+    new ≡ with_entry params before inclusion.entry
     → with_lets params before (lets_among left) ≡ whole → with_lets params new (lets_among rest) ≡ whole
-puts_scope_turn params before new whole put left rest l n h = ap (λ (d : Declared). with_lets params d (lets_among rest)) n ∙
-    (sym (lets_next params before put rest) ∙ (sym (ap (λ (ps : List Put). with_lets params before (lets_among ps)) l) ∙ h))
+puts_scope_turn params before new whole inclusion left rest l n h = ap (λ (d : Declared). with_lets params d (lets_among rest)) n ∙
+    (sym (lets_next params before inclusion rest) ∙ (sym (ap (λ (ps : List Inclusion). with_lets params before (lets_among ps)) l) ∙ h))
 
 pub items_turn : (init s t : Search) (whole : List Written) (file : File) (instance : Instance) (all all' before new : Declared) (e : Entry)
     (left rest : List Entry) → left ≡ e ∷ rest → new ≡ with_entry instance.params before e → all' ≡ all

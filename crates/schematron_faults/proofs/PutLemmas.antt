@@ -14,7 +14,7 @@ use Rattle.schematron_meaning.specs.declared.role.Role.TheVariants as r
 use Rattle.schematron_meaning.specs.Entries.{Entry}
 use Rattle.schematron_meaning.specs.Lookup.{is_own_rule, is_abstract_rule, is_assertion, is_item, inside, at_node}
 use Rattle.schematron_meaning.specs.Bodies.{abstract_rules, rule_at, putting, put_by, part_by, body_at, bodies_among, bodies}
-use Rattle.schematron_meaning.specs.Expansion.{File, Put, or_itself, put_at_stand, put_at, puts_by, puts}
+use Rattle.schematron_meaning.specs.Expansion.{File, Inclusion, or_itself, put_at_stand, put_at, puts_by, inclusions}
 use Rattle.schematron_faults.specs.Read.{entry_at, IsOf, IsRead, IsRule}
 use Rattle.schematron_faults.proofs.EachLemmas.{Each, each_all, each-weaker, each-append, each-filter, each-map, each-flat_map, find_passes}
 use Rattle.schematron_faults.proofs.JoinLemmas.{Behind, Rising, rising}
@@ -224,7 +224,7 @@ own_items file rule is own = each-weaker (λ (e : Entry). IsOf file.entries e ×
     (each_of file.entries (rising file.entries is.rises)))
 
 pub puts_known : (file : File) (stand : Option ℕ) (rule : Entry) → IsRead file → IsRule file.entries rule →
-    Each (Known file.entries (is_put file.rules stand)) (puts file stand rule.number)
+    Each (Known file.entries (is_put file.rules stand)) (inclusions file stand rule.number)
 puts_known file stand rule is own = each-flat_map (Known file.entries (is_put file.rules stand)) (λ (e : Entry). puts_by e.role file stand e)
     (inside is_item file.entries rule.number)
     (each-weaker (λ (e : Entry). IsOf file.entries e × (is_abstract_item file.rules e ≡ false))
@@ -233,14 +233,14 @@ puts_known file stand rule is own = each-flat_map (Known file.entries (is_put fi
 
 -- ---- the elements at which they stand
 
-abbrev StandsAt : ℕ → Put → Type 0
-StandsAt n put = stand_of put ≡ n
+abbrev StandsAt : ℕ → Inclusion → Type 0
+StandsAt n inclusion = stand_of inclusion ≡ n
 
-climbs-weaker : (low from : ℕ) (ps : List Put) → low ≤ from → Climbs from ps → Climbs low ps
+climbs-weaker : (low from : ℕ) (ps : List Inclusion) → low ≤ from → Climbs from ps → Climbs low ps
 climbs-weaker low from [] l h = tt
 climbs-weaker low from (p ∷ ps) l h = (omega (arith, h.0), h.1)
 
-climbs_same : (low n : ℕ) (ps qs : List Put) → low ≤ n → Each (StandsAt n) ps → Climbs n qs → Climbs low (ps ++ qs)
+climbs_same : (low n : ℕ) (ps qs : List Inclusion) → low ≤ n → Each (StandsAt n) ps → Climbs n qs → Climbs low (ps ++ qs)
 climbs_same low n [] qs l h c = climbs-weaker low n qs l c
 climbs_same low n (p ∷ ps) qs l h c = (omega (arith, h.0), subst (λ (m : ℕ). Climbs m (ps ++ qs)) (sym h.0) (climbs_same n n ps qs (omega arith) h.1 c))
 
@@ -272,7 +272,7 @@ climbs_at file n [] = tt
 climbs_at file n (e ∷ items) = climbs_same n n (puts_by e.role file (Some n) e) (flat_map (λ (x : Entry). puts_by x.role file (Some n) x) items) (omega arith)
     (stands_by e.role file (Some n) e) (climbs_at file n items)
 
-pub puts_climb : (file : File) (stand : Option ℕ) (n : ℕ) → IsRead file → Climbs 0 (puts file stand n)
+pub puts_climb : (file : File) (stand : Option ℕ) (n : ℕ) → IsRead file → Climbs 0 (inclusions file stand n)
 puts_climb file None n is = climbs_own file (inside is_item file.entries n)
     (rising-filter (λ (e : Entry). is_item e.role && nat_eq e.parent n) file.entries (rising file.entries is.rises))
-puts_climb file (Some m) n is = climbs-weaker 0 m (puts file (Some m) n) (omega arith) (climbs_at file m (inside is_item file.entries n))
+puts_climb file (Some m) n is = climbs-weaker 0 m (inclusions file (Some m) n) (omega arith) (climbs_at file m (inside is_item file.entries n))

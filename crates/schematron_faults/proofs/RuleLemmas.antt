@@ -7,7 +7,7 @@ use Rattle.schematron_texts.specs.Replacing.{Parameter}
 use Rattle.schematron_meaning.specs.declared.attribute.Attribute.TheVariants as a
 use Rattle.schematron_meaning.specs.Entries.{Entry}
 use Rattle.schematron_meaning.specs.Lookup.{is_own_rule, inside}
-use Rattle.schematron_meaning.specs.Expansion.{File, Put, Instance, puts}
+use Rattle.schematron_meaning.specs.Expansion.{File, Inclusion, Instance, inclusions}
 use Rattle.schematron_meaning.specs.Written.{written, written_puts, with_lets, lets_among, written_rule, is_let_or_rule, written_pattern}
 use Rattle.schematron_expansion.specs.Seen.{first_puts}
 use Rattle.schematron_faults.specs.declared.search.Search.{Search}
@@ -26,11 +26,12 @@ use Rattle.schematron_faults.proofs.SearchLemmas.{goes-append, goes_from, goes_p
 -- What goes over first copies goes over all.
 pub goes_copies : Keeps → (file : File) (stand : Option ℕ) (params : List Parameter) (outer : Declared) (rule : Entry) (s t : Search) → IsRead file →
     IsRule file.entries rule
-    → Goes s t (written_puts file.entries params (with_lets params outer (lets_among (first_puts (puts file stand rule.number)))) outer
-    (first_puts (puts file stand rule.number)))
-    → Goes s t (written_puts file.entries params (with_lets params outer (lets_among (puts file stand rule.number))) outer (puts file stand rule.number))
+    → Goes s t (written_puts file.entries params (with_lets params outer (lets_among (first_puts (inclusions file stand rule.number)))) outer
+    (first_puts (inclusions file stand rule.number)))
+    → Goes s t (written_puts file.entries params (with_lets params outer (lets_among (inclusions file stand rule.number))) outer (inclusions file stand
+        rule.number))
 goes_copies keeps file stand params outer rule s t is own g =
-    let found : List Put = puts file stand rule.number in
+    let found : List Inclusion = inclusions file stand rule.number in
     let known : Each (Known file.entries (is_put file.rules stand)) found = puts_known file stand rule is own in
     let lets : with_lets params outer (lets_among (first_puts found)) ≡ with_lets params outer (lets_among found) =
     first_lets file.entries (is_put file.rules stand) params outer found known in
@@ -44,8 +45,8 @@ goes_copies keeps file stand params outer rule s t is own g =
     }
 
 -- A rule: its lets are declared, then its context is judged and what is put in it.
-pub goes_rule : Keeps → (file : File) (instance : Instance) (outer all before : Declared) (rule : Entry) (firsts : List Put) (s t u v : Search)
-    → firsts ≡ first_puts (puts file instance.stand rule.number) → all ≡ with_lets instance.params outer (lets_among firsts) → before ≡ outer
+pub goes_rule : Keeps → (file : File) (instance : Instance) (outer all before : Declared) (rule : Entry) (firsts : List Inclusion) (s t u v : Search)
+    → firsts ≡ first_puts (inclusions file instance.stand rule.number) → all ≡ with_lets instance.params outer (lets_among firsts) → before ≡ outer
     → Goes s t [] → Goes t u (written a.Context true instance.stand instance.params before rule) →
     Goes u v (written_puts file.entries instance.params all before firsts)
     → IsRead file → IsRule file.entries rule → Goes s v (written_rule file instance outer rule)
@@ -54,7 +55,7 @@ goes_rule keeps file instance outer all before rule firsts s t u v f d b declare
     (subst (λ (x : Declared). Goes s u (written a.Context true instance.stand instance.params x rule)) b
     (goes_from s t u (written a.Context true instance.stand instance.params before rule) declared context))
     (goes_copies keeps file instance.stand instance.params outer rule u v is own
-    (subst (λ (ps : List Put). Goes u v (written_puts file.entries instance.params (with_lets instance.params outer (lets_among ps)) outer ps)) f
+    (subst (λ (ps : List Inclusion). Goes u v (written_puts file.entries instance.params (with_lets instance.params outer (lets_among ps)) outer ps)) f
     (subst (λ (x : Declared). Goes u v (written_puts file.entries instance.params x outer firsts)) d
     (subst (λ (x : Declared). Goes u v (written_puts file.entries instance.params all x firsts)) b goes))))
 

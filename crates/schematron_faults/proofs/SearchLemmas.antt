@@ -4,7 +4,7 @@ use Rattle.std.proofs.Common.{◌∙◌, subst}
 use Rattle.std.specs.Prelude.{◌&&◌, not}
 use Rattle.std.proofs.lemmas.Bool.{false≢true, and_parts}
 use Rattle.std.proofs.lemmas.List.{drop_more, drop_all}
-use Rattle.schematron_graph.specs.declared.turns.Turns.{Turns}
+use Rattle.schematron_graph.specs.declared.budget.Budget.{Budget}
 use Rattle.schematron_meaning.specs.Written.{Written}
 use Rattle.schematron_expansion.specs.declared.found.Found.{Found}
 use Rattle.schematron_faults.specs.declared.search.Search.{Search}
@@ -52,8 +52,8 @@ pub goes_from : (s t u : Search) (ws : List Written) → Goes s t [] → Goes t 
 goes_from s t u ws g h = goes-append s t u [] ws g h
 
 -- a search of which turns were taken first
-pub goes_turned : (s t : Search) (turns : Turns) (ws : List Written) → Goes (record s { turns = turns }) t ws → Goes s t ws
-goes_turned s t turns ws g = record { best = g.best; keeps = record { last = g.keeps.last; again = g.keeps.again; texts = g.keeps.texts } }
+pub goes_turned : (s t : Search) (budget : Budget) (ws : List Written) → Goes (record s { budget = budget }) t ws → Goes s t ws
+goes_turned s t budget ws g = record { best = g.best; keeps = record { last = g.keeps.last; again = g.keeps.again; texts = g.keeps.texts } }
 
 pub on_ok : {A E : Type 0} (r : Result A E) {P Q : Type 0} → (P → Q) → OnOk r P → OnOk r Q
 on_ok (Ok x) f p = f p

@@ -12,7 +12,7 @@ use Rattle.schematron_meaning.specs.Entries.{Entry}
 use Rattle.schematron_meaning.specs.Lookup.{attribute, is_let, is_part, is_item, inside, at_node}
 use Rattle.schematron_texts.specs.Replacing.{Parameter}
 use Rattle.schematron_meaning.specs.Bodies.{put_by}
-use Rattle.schematron_meaning.specs.Expansion.{File, Put, Instance, or_itself, put_at_stand, put_at, puts_by, puts}
+use Rattle.schematron_meaning.specs.Expansion.{File, Inclusion, Instance, or_itself, put_at_stand, put_at, puts_by, inclusions}
 use Rattle.schematron_meaning.specs.Written.{Written, written_text, written, written_let, with_lets, lets_among, written_assertion, written_puts, written_rule}
 use Rattle.schematron_meaning.specs.Written.{is_let_or_rule, written_items, pattern_scope, written_pattern}
 use Rattle.schematron_faults.specs.Things.{written_put, with_entry, written_item}
@@ -31,32 +31,32 @@ at_written n name is_pattern stand params scope e h = by (attribute name e)
     by None = tt
     by (Some text) = (ap (λ (s : Option ℕ). or_itself s e.number) h, tt)
 
-at_put : (n : ℕ) (es : List Entry) (params : List Parameter) (all before : Declared) (put : Put) → put.stand ≡ Some n →
-    Each (IsAt n) (written_put es params all before put)
-at_put n es params all before put h = by (is_let put.entry.role)
+at_put : (n : ℕ) (es : List Entry) (params : List Parameter) (all before : Declared) (inclusion : Inclusion) → inclusion.stand ≡ Some n →
+    Each (IsAt n) (written_put es params all before inclusion)
+at_put n es params all before inclusion h = by (is_let inclusion.entry.role)
   where
     by : (test : Bool) → Each (IsAt n) (elim test as (λ _. List Written) [
-      | true ↦ written_let put.stand params before put.entry
-      | false ↦ written_assertion es params all put
+      | true ↦ written_let inclusion.stand params before inclusion.entry
+      | false ↦ written_assertion es params all inclusion
     ])
-    by true = at_written n a.Value false put.stand params before put.entry h
-    by false = each-append (IsAt n) (written a.Test false put.stand params all put.entry)
-        (flat_map (λ (part : Entry). written a.Select false put.stand params all part) (inside is_part es put.entry.number))
-        (at_written n a.Test false put.stand params all put.entry h)
-        (each-flat_map (IsAt n) (λ (part : Entry). written a.Select false put.stand params all part) (inside is_part es put.entry.number)
-        (each_all (λ (part : Entry). Each (IsAt n) (written a.Select false put.stand params all part)) (inside is_part es put.entry.number)
-        (λ part. at_written n a.Select false put.stand params all part h)))
+    by true = at_written n a.Value false inclusion.stand params before inclusion.entry h
+    by false = each-append (IsAt n) (written a.Test false inclusion.stand params all inclusion.entry)
+        (flat_map (λ (part : Entry). written a.Select false inclusion.stand params all part) (inside is_part es inclusion.entry.number))
+        (at_written n a.Test false inclusion.stand params all inclusion.entry h)
+        (each-flat_map (IsAt n) (λ (part : Entry). written a.Select false inclusion.stand params all part) (inside is_part es inclusion.entry.number)
+        (each_all (λ (part : Entry). Each (IsAt n) (written a.Select false inclusion.stand params all part)) (inside is_part es inclusion.entry.number)
+        (λ part. at_written n a.Select false inclusion.stand params all part h)))
 
-abbrev PutAt : ℕ → Put → Type 0
-PutAt n put = put.stand ≡ Some n
+abbrev PutAt : ℕ → Inclusion → Type 0
+PutAt n inclusion = inclusion.stand ≡ Some n
 
-at_puts : (n : ℕ) (es : List Entry) (params : List Parameter) (all before : Declared) (ps : List Put) → Each (PutAt n) ps →
+at_puts : (n : ℕ) (es : List Entry) (params : List Parameter) (all before : Declared) (ps : List Inclusion) → Each (PutAt n) ps →
     Each (IsAt n) (written_puts es params all before ps)
 at_puts n es params all before [] h = tt
-at_puts n es params all before (put ∷ ps) h = subst (Each (IsAt n)) (sym (puts_next es params all before put ps))
-    (each-append (IsAt n) (written_put es params all before put) (written_puts es params all (with_entry params before put.entry) ps)
-    (at_put n es params all before put h.0)
-    (at_puts n es params all (with_entry params before put.entry) ps h.1))
+at_puts n es params all before (inclusion ∷ ps) h = subst (Each (IsAt n)) (sym (puts_next es params all before inclusion ps))
+    (each-append (IsAt n) (written_put es params all before inclusion) (written_puts es params all (with_entry params before inclusion.entry) ps)
+    (at_put n es params all before inclusion h.0)
+    (at_puts n es params all (with_entry params before inclusion.entry) ps h.1))
 
 put_at_all : (file : File) (n : ℕ) (rule : Option ℕ) → Each (PutAt n) (put_at file (Some n) rule)
 put_at_all file n None = tt
@@ -70,7 +70,7 @@ at_by : (role : Role) (file : File) (n : ℕ) (e : Entry) → Each (PutAt n) (pu
 at_by r.Extends file n e = put_at_all file n (put_by file.rules e)
 at_by _ file n e = (refl, tt)
 
-puts_at : (file : File) (n k : ℕ) → Each (PutAt n) (puts file (Some n) k)
+puts_at : (file : File) (n k : ℕ) → Each (PutAt n) (inclusions file (Some n) k)
 puts_at file n k = each-flat_map (PutAt n) (λ (e : Entry). puts_by e.role file (Some n) e) (inside is_item file.entries k)
     (each_all (λ (e : Entry). Each (PutAt n) (puts_by e.role file (Some n) e)) (inside is_item file.entries k) (λ e. at_by e.role file n e))
 
@@ -78,9 +78,9 @@ at_rule : (file : File) (instance : Instance) (n : ℕ) (outer : Declared) (rule
     Each (IsAt n) (written_rule file instance outer rule)
 at_rule file instance n outer rule h = each-append (IsAt n) (written a.Context true instance.stand instance.params outer rule) _
     (at_written n a.Context true instance.stand instance.params outer rule h)
-    (at_puts n file.entries instance.params (with_lets instance.params outer (lets_among (puts file instance.stand rule.number))) outer
-    (puts file instance.stand rule.number)
-    (subst (λ (s : Option ℕ). Each (PutAt n) (puts file s rule.number)) (sym h) (puts_at file n rule.number)))
+    (at_puts n file.entries instance.params (with_lets instance.params outer (lets_among (inclusions file instance.stand rule.number))) outer
+    (inclusions file instance.stand rule.number)
+    (subst (λ (s : Option ℕ). Each (PutAt n) (inclusions file s rule.number)) (sym h) (puts_at file n rule.number)))
 
 at_items : (file : File) (instance : Instance) (n : ℕ) (all before : Declared) (items : List Entry) → instance.stand ≡ Some n →
     Each (IsAt n) (written_items file instance all before items)

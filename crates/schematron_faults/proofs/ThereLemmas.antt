@@ -12,7 +12,8 @@ use Rattle.schematron_meaning.specs.Entries.{Entry}
 use Rattle.schematron_meaning.specs.Lookup.{attribute, the_schema, is_let, is_phase, is_part, is_item, of_role, inside, at_node}
 use Rattle.schematron_texts.specs.Replacing.{Parameter}
 use Rattle.schematron_meaning.specs.Bodies.{put_by}
-use Rattle.schematron_meaning.specs.Expansion.{File, Put, Instance, or_itself, put_at_stand, put_at, puts_by, puts, used_by, pattern_used, instance_by}
+use Rattle.schematron_meaning.specs.Expansion.{File, Inclusion, Instance, or_itself, put_at_stand, put_at, puts_by, inclusions, used_by, pattern_used}
+use Rattle.schematron_meaning.specs.Expansion.{instance_by}
 use Rattle.schematron_meaning.specs.Expansion.{instance_of, instances}
 use Rattle.schematron_meaning.specs.Written.{Written, prefixes, written_text, written, written_let, written_lets, with_let, with_lets, lets_among}
 use Rattle.schematron_meaning.specs.Written.{written_assertion, written_puts, written_rule, is_let_or_rule, written_items, pattern_scope, written_pattern}
@@ -89,30 +90,30 @@ told_parts es stand params all parts h k = each-flat_map (IsTold es) (λ (part :
     (each-weaker (EntryThere es) (λ (part : Entry). AreTold es (written a.Select false stand params all part)) parts
     (λ part there. told_written es a.Select false stand params all part h there) k)
 
-abbrev PutThere : List Entry → Put → Type 0
-PutThere es put = StandsThere es put.stand × EntryThere es put.entry
+abbrev PutThere : List Entry → Inclusion → Type 0
+PutThere es inclusion = StandsThere es inclusion.stand × EntryThere es inclusion.entry
 
-told_put : (es : List Entry) (params : List Parameter) (all before : Declared) (put : Put) → Rising es → PutThere es put →
-    AreTold es (written_put es params all before put)
-told_put es params all before put rise h = by (is_let put.entry.role)
+told_put : (es : List Entry) (params : List Parameter) (all before : Declared) (inclusion : Inclusion) → Rising es → PutThere es inclusion →
+    AreTold es (written_put es params all before inclusion)
+told_put es params all before inclusion rise h = by (is_let inclusion.entry.role)
   where
     by : (test : Bool) → AreTold es (elim test as (λ _. List Written) [
-      | true ↦ written_let put.stand params before put.entry
-      | false ↦ written_assertion es params all put
+      | true ↦ written_let inclusion.stand params before inclusion.entry
+      | false ↦ written_assertion es params all inclusion
     ])
-    by true = told_written es a.Value false put.stand params before put.entry h.0 h.1
-    by false = each-append (IsTold es) (written a.Test false put.stand params all put.entry)
-        (flat_map (λ (part : Entry). written a.Select false put.stand params all part) (inside is_part es put.entry.number))
-        (told_written es a.Test false put.stand params all put.entry h.0 h.1)
-        (told_parts es put.stand params all (inside is_part es put.entry.number) h.0 (inside_there is_part es put.entry.number rise))
+    by true = told_written es a.Value false inclusion.stand params before inclusion.entry h.0 h.1
+    by false = each-append (IsTold es) (written a.Test false inclusion.stand params all inclusion.entry)
+        (flat_map (λ (part : Entry). written a.Select false inclusion.stand params all part) (inside is_part es inclusion.entry.number))
+        (told_written es a.Test false inclusion.stand params all inclusion.entry h.0 h.1)
+        (told_parts es inclusion.stand params all (inside is_part es inclusion.entry.number) h.0 (inside_there is_part es inclusion.entry.number rise))
 
-told_puts : (es : List Entry) (params : List Parameter) (all before : Declared) (ps : List Put) → Rising es → Each (PutThere es) ps →
+told_puts : (es : List Entry) (params : List Parameter) (all before : Declared) (ps : List Inclusion) → Rising es → Each (PutThere es) ps →
     AreTold es (written_puts es params all before ps)
 told_puts es params all before [] rise h = tt
-told_puts es params all before (put ∷ ps) rise h = subst (AreTold es) (sym (puts_next es params all before put ps))
-    (each-append (IsTold es) (written_put es params all before put) (written_puts es params all (with_entry params before put.entry) ps)
-    (told_put es params all before put rise h.0)
-    (told_puts es params all (with_entry params before put.entry) ps rise h.1))
+told_puts es params all before (inclusion ∷ ps) rise h = subst (AreTold es) (sym (puts_next es params all before inclusion ps))
+    (each-append (IsTold es) (written_put es params all before inclusion) (written_puts es params all (with_entry params before inclusion.entry) ps)
+    (told_put es params all before inclusion rise h.0)
+    (told_puts es params all (with_entry params before inclusion.entry) ps rise h.1))
 
 there_put_at : (file : File) (n : ℕ) (rule : Option ℕ) → IsThere file.entries n → Each (PutThere file.entries) (put_at file (Some n) rule)
 there_put_at file n None h = tt
@@ -128,7 +129,8 @@ there_by : (role : Role) (file : File) (stand : Option ℕ) (e : Entry) → Stan
 there_by r.Extends file stand e h k = there_put_at file (or_itself stand e.number) (put_by file.rules e) (itself_there file.entries stand e.number h k)
 there_by _ file stand e h k = ((h, k), tt)
 
-puts_there : (file : File) (stand : Option ℕ) (n : ℕ) → Rising file.entries → StandsThere file.entries stand → Each (PutThere file.entries) (puts file stand n)
+puts_there : (file : File) (stand : Option ℕ) (n : ℕ) → Rising file.entries → StandsThere file.entries stand
+    → Each (PutThere file.entries) (inclusions file stand n)
 puts_there file stand n rise h = each-flat_map (PutThere file.entries) (λ (e : Entry). puts_by e.role file stand e) (inside is_item file.entries n)
     (each-weaker (EntryThere file.entries) (λ (e : Entry). Each (PutThere file.entries) (puts_by e.role file stand e)) (inside is_item file.entries n)
     (λ e k. there_by e.role file stand e h k) (inside_there is_item file.entries n rise))
@@ -137,8 +139,8 @@ told_rule : (file : File) (instance : Instance) (outer : Declared) (rule : Entry
     EntryThere file.entries rule → AreTold file.entries (written_rule file instance outer rule)
 told_rule file instance outer rule rise h k = each-append (IsTold file.entries) (written a.Context true instance.stand instance.params outer rule) _
     (told_written file.entries a.Context true instance.stand instance.params outer rule h k)
-    (told_puts file.entries instance.params (with_lets instance.params outer (lets_among (puts file instance.stand rule.number))) outer
-    (puts file instance.stand rule.number) rise (puts_there file instance.stand rule.number rise h))
+    (told_puts file.entries instance.params (with_lets instance.params outer (lets_among (inclusions file instance.stand rule.number))) outer
+    (inclusions file instance.stand rule.number) rise (puts_there file instance.stand rule.number rise h))
 
 pub items_next : (file : File) (instance : Instance) (all before : Declared) (e : Entry) (items : List Entry)
     → written_items file instance all before (e ∷ items) ≡ written_item file instance all before e ++

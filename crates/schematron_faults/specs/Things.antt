@@ -5,15 +5,15 @@ use Rattle.schematron_texts.specs.Replacing.{Parameter}
 use Rattle.schematron_meaning.specs.declared.attribute.Attribute.TheVariants as a
 use Rattle.schematron_meaning.specs.Entries.{Entry}
 use Rattle.schematron_meaning.specs.Lookup.{is_let}
-use Rattle.schematron_meaning.specs.Expansion.{File, Put, Instance, instances}
+use Rattle.schematron_meaning.specs.Expansion.{File, Inclusion, Instance, instances}
 use Rattle.schematron_meaning.specs.Written.{Written, with_let, written, written_let, written_assertion, written_rule, written_pattern, outer_scope}
 
 -- One thing of a rule
 
-abbrev pub written_put : List Entry → List Parameter → Declared → Declared → Put → List Written
-written_put es params all before put = elim (is_let put.entry.role) [
-  | true ↦ written_let put.stand params before put.entry
-  | false ↦ written_assertion es params all put
+abbrev pub written_put : List Entry → List Parameter → Declared → Declared → Inclusion → List Written
+written_put es params all before inclusion = elim (is_let inclusion.entry.role) [
+  | true ↦ written_let inclusion.stand params before inclusion.entry
+  | false ↦ written_assertion es params all inclusion
 ]
 
 -- the scope behind one

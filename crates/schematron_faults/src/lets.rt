@@ -82,7 +82,7 @@ pub(crate) fn declare_lets(
     ensures goes { OnOk result (spec.Goes search.old search.new []) }
     ensures scope { OnOk result (scope.new ≡ written.with_lets params.now scope.old (inside is_let file.now.entries number)) }
 {
-    let lets = file.inside_within(alloc, &mut search.turns, Sort::Lets, number)?;
+    let lets = file.inside_within(alloc, &mut search.budget, Sort::Lets, number)?;
     'lets: for e in lets {
         declare(alloc, search, params, scope, e)?;
     }

@@ -22,16 +22,16 @@ pub fn first_too_many(alloc: Global, file: &RuleFile<'_, '_>) -> Result<Option<F
     ensures { IfOk result (λ found. found ≡ first_passing file.now) }
 {
     file.is_of_its_entries();
-    let puts = assertions(alloc, file.entries(), file.graph())?;
+    let inclusions = assertions(alloc, file.entries(), file.graph())?;
     match counted(alloc, file.entries()) {
         Ok(counted) => {
-            let found = first_by(alloc, file, &puts, &counted);
-            drop(puts);
+            let found = first_by(alloc, file, &inclusions, &counted);
+            drop(inclusions);
             drop(counted);
             found
         }
         Err(error) => {
-            drop(puts);
+            drop(inclusions);
             Err(error)
         }
     }
@@ -41,10 +41,10 @@ pub fn first_too_many(alloc: Global, file: &RuleFile<'_, '_>) -> Result<Option<F
 fn first_by(
     alloc: Global,
     file: &RuleFile<'_, '_>,
-    puts: &[u64],
+    inclusions: &[u64],
     counted: &[bool],
 ) -> Result<Option<Found>, AllocError>
-    requires puts { puts.now ≡ assertions_among file.now file.now.entries }
+    requires inclusions { inclusions.now ≡ assertions_among file.now file.now.entries }
     requires counted { counted.now ≡ counted_among file.now.entries file.now.entries }
     ensures { IfOk result (λ found. found ≡ first_passing file.now) }
 {
@@ -52,17 +52,17 @@ fn first_by(
     let entries = file.entries();
     let inside = assertions_inside(alloc, entries, file.graph())?;
     let sizes = sizes_of(alloc, file, &inside)?;
-    Ok(first_of(file, puts, counted, &sizes))
+    Ok(first_of(file, inclusions, counted, &sizes))
 }
 
 /// The same where it is known besides of each element what its rules come to.
 fn first_of(
     file: &RuleFile<'_, '_>,
-    puts: &[u64],
+    inclusions: &[u64],
     counted: &[bool],
     sizes: &IndexMap<u32, Size>,
 ) -> Option<Found>
-    requires puts { puts.now ≡ assertions_among file.now file.now.entries }
+    requires inclusions { inclusions.now ≡ assertions_among file.now file.now.entries }
     requires counted { counted.now ≡ counted_among file.now.entries file.now.entries }
     requires sizes { spec.AreSizes (λ n. get nat_eq sizes.now n) file.now file.now.entries }
     ensures { result ≡ first_passing file.now }
@@ -71,7 +71,7 @@ fn first_of(
     let mut before = no_sums();
     'places: for at in 0..entries.len() {
         let e = &entries[at];
-        let after = added(before, sums_at(file, sizes, e, puts[at], counted[at]));
+        let after = added(before, sums_at(file, sizes, e, inclusions[at], counted[at]));
         if passes_any(before, after) {
             return Some(too_many(e));
         }

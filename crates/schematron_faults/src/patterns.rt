@@ -200,7 +200,7 @@ fn judge_items(
     ensures all { OnOk result (scopes.new.all ≡ scopes.old.all) }
 {
     let sort = Sort::LetsAndRules;
-    let items = file.inside_within(alloc, &mut search.turns, sort, instance.body)?;
+    let items = file.inside_within(alloc, &mut search.budget, sort, instance.body)?;
     'items: for e in items {
         judge_item(alloc, search, file, scopes, instance, e)?;
     }

@@ -13,7 +13,7 @@ use crate::judging::judge;
 use crate::lets::{declare, judge_let};
 use crate::search::Search;
 use schematron_entries::Entry;
-use schematron_expansion::{Instance, Put, RuleFile, Sort};
+use schematron_expansion::{Inclusion, Instance, RuleFile, Sort};
 use schematron_meaning::Attribute;
 use schematron_texts::Parameters;
 use std::alloc::{AllocError, Global};
@@ -40,8 +40,8 @@ pub(crate) fn judge_rule(
     accepted_with_one_more();
     let count = all.count();
     let number = rule.node.number();
-    let puts = file.first_puts(alloc, &mut search.turns, instance.stand, number)?;
-    declare_puts(alloc, search, &instance.params, all, puts.as_slice())?;
+    let inclusions = file.first_puts(alloc, &mut search.budget, instance.stand, number)?;
+    declare_puts(alloc, search, &instance.params, all, inclusions.as_slice())?;
     judge_context(alloc, search, instance, before, rule)?;
     judge_puts(
         alloc,
@@ -50,7 +50,7 @@ pub(crate) fn judge_rule(
         &instance.params,
         before,
         all,
-        puts.as_slice(),
+        inclusions.as_slice(),
     )?;
     before.truncate(count);
     all.truncate(count);
@@ -86,13 +86,13 @@ fn declare_puts(
     search: &mut Search,
     params: &Parameters,
     scope: &mut Scope,
-    puts: &[Put<'_, '_>],
+    inclusions: &[Inclusion<'_, '_>],
 ) -> Result<(), AllocError>
     ensures goes { OnOk result (spec.Goes search.old search.new []) }
-    ensures scope { OnOk result (scope.new ≡ written.with_lets params.now scope.old (written.lets_among (map seen_put puts.now))) }
+    ensures scope { OnOk result (scope.new ≡ written.with_lets params.now scope.old (written.lets_among (map seen_put inclusions.now))) }
 {
-    'puts: for put in puts {
-        declare_entry(alloc, search, params, scope, put.entry)?;
+    'inclusions: for inclusion in inclusions {
+        declare_entry(alloc, search, params, scope, inclusion.entry)?;
     }
     Ok(())
 }
@@ -123,13 +123,14 @@ fn judge_puts(
     params: &Parameters,
     before: &mut Scope,
     all: &Scope,
-    puts: &[Put<'_, '_>],
+    inclusions: &[Inclusion<'_, '_>],
 ) -> Result<(), AllocError>
-    ensures goes { OnOk result (spec.Goes search.old search.new (written.written_puts file.now.entries params.now all.now before.old (map seen_put puts.now))) }
-    ensures before { OnOk result (before.new ≡ written.with_lets params.now before.old (written.lets_among (map seen_put puts.now))) }
+    ensures goes { OnOk result (spec.Goes search.old search.new (written.written_puts file.now.entries params.now all.now before.old (map seen_put
+        inclusions.now))) }
+    ensures before { OnOk result (before.new ≡ written.with_lets params.now before.old (written.lets_among (map seen_put inclusions.now))) }
 {
-    'puts: for put in puts {
-        judge_put(alloc, search, file, params, before, all, put)?;
+    'inclusions: for inclusion in inclusions {
+        judge_put(alloc, search, file, params, before, all, inclusion)?;
     }
     Ok(())
 }
@@ -141,15 +142,22 @@ fn judge_put(
     params: &Parameters,
     before: &mut Scope,
     all: &Scope,
-    put: &Put<'_, '_>,
+    inclusion: &Inclusion<'_, '_>,
 ) -> Result<(), AllocError>
-    ensures goes { OnOk result (spec.Goes search.old search.new (things.written_put file.now.entries params.now all.now before.old (seen_put put.now))) }
-    ensures before { OnOk result (before.new ≡ things.with_entry params.now before.old (seen_put put.now).entry) }
+    ensures goes { OnOk result (spec.Goes search.old search.new (things.written_put file.now.entries params.now all.now before.old (seen_put inclusion.now))) }
+    ensures before { OnOk result (before.new ≡ things.with_entry params.now before.old (seen_put inclusion.now).entry) }
 {
-    if put.entry.role.is_let() {
-        judge_let(alloc, search, put.stand, params, before, put.entry)
+    if inclusion.entry.role.is_let() {
+        judge_let(
+            alloc,
+            search,
+            inclusion.stand,
+            params,
+            before,
+            inclusion.entry,
+        )
     } else {
-        judge_assertion(alloc, search, file, params, all, put)
+        judge_assertion(alloc, search, file, params, all, inclusion)
     }
 }
 
@@ -160,20 +168,28 @@ fn judge_assertion(
     file: &RuleFile<'_, '_>,
     params: &Parameters,
     all: &Scope,
-    put: &Put<'_, '_>,
+    inclusion: &Inclusion<'_, '_>,
 ) -> Result<(), AllocError>
-    ensures { OnOk result (spec.Goes search.old search.new (written.written_assertion file.now.entries params.now all.now (seen_put put.now))) }
+    ensures { OnOk result (spec.Goes search.old search.new (written.written_assertion file.now.entries params.now all.now (seen_put inclusion.now))) }
 {
     judge(
         alloc,
         search,
         Attribute::Test,
-        put.stand,
+        inclusion.stand,
         params,
         all,
-        put.entry,
+        inclusion.entry,
     )?;
-    judge_parts(alloc, search, file, put.stand, params, all, put.entry)
+    judge_parts(
+        alloc,
+        search,
+        file,
+        inclusion.stand,
+        params,
+        all,
+        inclusion.entry,
+    )
 }
 
 fn judge_parts(
@@ -189,7 +205,7 @@ fn judge_parts(
         (things.written_parts stand params.now all.now (inside is_part file.now.entries (seen_entry e.now).number))) }
 {
     let number = e.node.number();
-    let parts = file.inside_within(alloc, &mut search.turns, Sort::MessageParts, number)?;
+    let parts = file.inside_within(alloc, &mut search.budget, Sort::MessageParts, number)?;
     'parts: for part in parts {
         judge(alloc, search, Attribute::Select, stand, params, all, part)?;
     }

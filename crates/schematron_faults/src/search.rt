@@ -6,7 +6,7 @@ ghost use Rattle.schematron_faults.specs.Searching as spec;
 
 use crate::texts::{Texts, is_changed};
 use schematron_expansion::{Found, sooner};
-use schematron_graph::Turns;
+use schematron_graph::Budget;
 use schematron_meaning::{MOST_JUDGED_BYTES, MOST_TURNS};
 use std::alloc::AllocError;
 
@@ -23,7 +23,7 @@ pub(crate) struct Search {
     /// How much may still be gone over.
     pub left: u64,
     /// How many turns walks may still take.
-    pub turns: Turns,
+    pub budget: Budget,
 }
 
 impl Drop for Search {
@@ -34,7 +34,7 @@ impl Drop for Search {
             again: _,
             texts,
             left: _,
-            turns: _,
+            budget: _,
         } = self;
         drop(texts);
     }
@@ -53,7 +53,7 @@ pub(crate) fn begin(best: Option<Found>, last: Option<u32>, texts: Texts) -> Sea
         again: false,
         texts,
         left: MOST_JUDGED_BYTES,
-        turns: Turns { left: MOST_TURNS },
+        budget: Budget { left: MOST_TURNS },
     }
 }
 

@@ -22,11 +22,11 @@ pub(crate) fn sums_at<'e, 'd>(
     file: &RuleFile<'e, 'd>,
     sizes: &IndexMap<u32, Size>,
     e: &Entry<'d>,
-    puts: u64,
+    inclusions: u64,
     stands_in_one: bool,
 ) -> Sums
     requires sizes { spec.AreSizes (λ n. get nat_eq sizes.now n) file.now file.now.entries }
-    requires puts { puts ≡ assertions_at file.now (seen_entry e.now) }
+    requires inclusions { inclusions ≡ assertions_at file.now (seen_entry e.now) }
     requires counted { stands_in_one ≡ is_counted file.now.entries (seen_entry e.now) }
     ensures { spec.seen_sums result ≡ spec.stopped (meaning.tally_of file.now (seen_entry e.now)) }
 {
@@ -34,7 +34,7 @@ pub(crate) fn sums_at<'e, 'd>(
         Role::Pattern => one_pattern(0, 0),
         Role::Use => sums_used(file, sizes, e),
         Role::Rule => where_so(is_of_a_pattern(file, e.parent), 1, 0),
-        Role::Assert | Role::Report | Role::Extends => where_so(stands_in_one, 0, puts),
+        Role::Assert | Role::Report | Role::Extends => where_so(stands_in_one, 0, inclusions),
         _ => no_sums(),
     }
 }

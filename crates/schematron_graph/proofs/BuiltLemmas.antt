@@ -13,18 +13,19 @@ use Rattle.std.proofs.lemmas.Bool.Decides.{nat_tests}
 use Rattle.std.proofs.lemmas.Grind.{flat_map-append}
 use Rattle.schematron_graph.specs.declared.part.Part.{Part}
 use Rattle.schematron_graph.specs.declared.part.Part.TheVariants.{Own, Puts}
-use Rattle.schematron_graph.specs.declared.building.Put.{Put}
+use Rattle.schematron_graph.specs.declared.building.Substitute.{Substitute}
 use Rattle.schematron_graph.specs.Rules.{body_of, part_ends, most_depth, ends_within, ends, things_of, things_within, things_where, things_put, expansion}
 use Rattle.schematron_graph.specs.Ranked.{found, things_behind, is_below}
-use Rattle.schematron_graph.specs.Built.{parts_put, parts_found, built_body, is_built_found, is_built, is_ready, built_count, FitsRule, Fits, IsClosed}
+use Rattle.schematron_graph.specs.Built.{parts_put, parts_found, built_body, is_built_found, is_settled, is_ready, built_count, FitsRule, Fits, IsClosed}
 use Rattle.schematron_graph.specs.Built.{is_unbuilt_found, is_next, ranked_with, put_with}
 use Rattle.schematron_graph.proofs.RankedLemmas.{and-left, and-right, and-both, behind-push, length-behind, things_of-Agrees}
 use Rattle.schematron_graph.proofs.DepthLemmas.{ends-le, things-le, absent-body, absent-ends, absent-things}
 
 -- Rules that are ready
 
-module _ (rules ranked : List (List Part)) (puts : List (Option Put)) (fits : Fits rules ranked puts) where
-  ends-found : (rule : ℕ) (f : Option (Option Put)) → slice_get puts rule ≡ f → is_built_found f ≡ true → ends_within (suc (built_count puts)) rules rule ≡ true
+module _ (rules ranked : List (List Part)) (puts : List (Option Substitute)) (fits : Fits rules ranked puts) where
+  ends-found : (rule : ℕ) (f : Option (Option Substitute)) → slice_get puts rule ≡ f → is_built_found f ≡ true
+      → ends_within (suc (built_count puts)) rules rule ≡ true
   ends-found rule None e b = absent-ends rules rule (built_count puts) (absent-body puts rules rule fits.whole e)
   ends-found rule (Some None) e b = absurd (true≢false (sym b))
   ends-found rule (Some (Some put)) e b = let r : FitsRule rules ranked (built_count puts) rule put = fits.each rule put e in r.ends_there
@@ -34,10 +35,10 @@ module _ (rules ranked : List (List Part)) (puts : List (Option Put)) (fits : Fi
   ready-ends (Own thing ∷ body) e = ready-ends body e
   ready-ends (Puts rule ∷ body) e =
       and-both (ends_within (suc (built_count puts)) rules rule) (list_all (part_ends (ends_within (suc (built_count puts)) rules)) body)
-      (ends-found rule (slice_get puts rule) refl (and-left (is_built puts rule) (is_ready puts body) e))
-      (ready-ends body (and-right (is_built puts rule) (is_ready puts body) e))
+      (ends-found rule (slice_get puts rule) refl (and-left (is_settled puts rule) (is_ready puts body) e))
+      (ready-ends body (and-right (is_settled puts rule) (is_ready puts body) e))
 
-  things-found : (rule : ℕ) (f : Option (Option Put)) → slice_get puts rule ≡ f → is_built_found f ≡ true
+  things-found : (rule : ℕ) (f : Option (Option Substitute)) → slice_get puts rule ≡ f → is_built_found f ≡ true
       → flat_map (things_of (found (things_behind ranked))) (parts_found f) ≡ things_within (most_depth rules) rules rule
   things-found rule None e b = sym (absent-things rules rule (length rules) (absent-body puts rules rule fits.whole e))
   things-found rule (Some None) e b = absurd (true≢false (sym b))
@@ -50,10 +51,10 @@ module _ (rules ranked : List (List Part)) (puts : List (Option Put)) (fits : Fi
   ready-things (Puts rule ∷ body) e =
       flat_map-append (things_of (found (things_behind ranked))) (parts_found (slice_get puts rule)) (built_body puts body)
       ∙ (ap (λ t. t ++ flat_map (things_of (found (things_behind ranked))) (built_body puts body))
-      (things-found rule (slice_get puts rule) refl (and-left (is_built puts rule) (is_ready puts body) e))
-      ∙ ap (λ t. things_within (most_depth rules) rules rule ++ t) (ready-things body (and-right (is_built puts rule) (is_ready puts body) e)))
+      (things-found rule (slice_get puts rule) refl (and-left (is_settled puts rule) (is_ready puts body) e))
+      ∙ ap (λ t. things_within (most_depth rules) rules rule ++ t) (ready-things body (and-right (is_settled puts rule) (is_ready puts body) e)))
 
-  below-found : (rule : ℕ) (f : Option (Option Put)) → slice_get puts rule ≡ f → list_all (is_below (length ranked)) (parts_found f) ≡ true
+  below-found : (rule : ℕ) (f : Option (Option Substitute)) → slice_get puts rule ≡ f → list_all (is_below (length ranked)) (parts_found f) ≡ true
   below-found rule None e = refl
   below-found rule (Some None) e = refl
   below-found rule (Some (Some put)) e = let r : FitsRule rules ranked (built_count puts) rule put = fits.each rule put e in r.below
@@ -146,28 +147,30 @@ get-set (a ∷ xs) zero (suc j) x y e = inr e
 get-set (a ∷ xs) (suc k) zero x y e = inr e
 get-set (a ∷ xs) (suc k) (suc j) x y e = elim (get-set xs k j x y e) [ inl h ↦ inl (ap suc h.0, h.1) | inr h ↦ inr h ]
 
-count-more : (puts : List (Option Put)) (rule : ℕ) (put : Put) → slice_get puts rule ≡ Some None → built_count (set puts rule (Some put)) ≡ built_count puts + 1
+count-more : (puts : List (Option Substitute)) (rule : ℕ) (put : Substitute) → slice_get puts rule ≡ Some None → built_count (set puts rule (Some put))
+    ≡ built_count puts + 1
 count-more puts rule put e =
-    let f : Option Put → ℕ = λ x. cond (is_some x) 1 0 in
+    let f : Option Substitute → ℕ = λ x. cond (is_some x) 1 0 in
     let s : built_count (set puts rule (Some put)) + f (get_or puts rule None) ≡ built_count puts + 1 =
     sum_by-set f puts rule (Some put) None (slice_get_within puts rule None e) in
     let n : f (get_or puts rule None) ≡ 0 = ap f (get_or_from_slice_get puts rule None None e) in
     omega (arith, s, n)
 
-pub unbuilt-found : (f : Option (Option Put)) → is_unbuilt_found f ≡ true → f ≡ Some None
+pub unbuilt-found : (f : Option (Option Substitute)) → is_unbuilt_found f ≡ true → f ≡ Some None
 unbuilt-found None e = absurd (true≢false (sym e))
 unbuilt-found (Some None) e = refl
 unbuilt-found (Some (Some put)) e = absurd (true≢false (sym e))
 
-module _ (rules ranked : List (List Part)) (puts : List (Option Put)) (fits : Fits rules ranked puts) (rule : ℕ) (unbuilt : slice_get puts rule ≡ Some None)
+module _ (rules ranked : List (List Part)) (puts : List (Option Substitute)) (fits : Fits rules ranked puts) (rule : ℕ) (unbuilt : slice_get puts rule
+    ≡ Some None)
     (ready : is_ready puts (body_of rules rule) ≡ true) where
   abbrev parts : List Part
   parts = built_body puts (body_of rules rule)
 
-  abbrev put : Put
+  abbrev put : Substitute
   put = put_with ranked parts
 
-  abbrev after : List (Option Put)
+  abbrev after : List (Option Substitute)
   after = set puts rule (Some put)
 
   counted : built_count after ≡ suc (built_count puts)
@@ -192,7 +195,7 @@ module _ (rules ranked : List (List Part)) (puts : List (Option Put)) (fits : Fi
   fits-new : FitsRule rules (ranked_with ranked parts) (built_count after) rule put
   fits-new = record { ends_there = ends-new; below = new-below ranked parts (built-below rules ranked puts fits (body_of rules rule)); things = things-new }
 
-  fits-old : (x : ℕ) (p : Put) → slice_get puts x ≡ Some (Some p) → FitsRule rules (ranked_with ranked parts) (built_count after) x p
+  fits-old : (x : ℕ) (p : Substitute) → slice_get puts x ≡ Some (Some p) → FitsRule rules (ranked_with ranked parts) (built_count after) x p
   fits-old x p e =
       let r : FitsRule rules ranked (built_count puts) x p = fits.each x p e in
       record {
@@ -201,10 +204,10 @@ module _ (rules ranked : List (List Part)) (puts : List (Option Put)) (fits : Fi
         things = ranked-kept ranked parts (parts_put p) r.below ∙ r.things;
       }
 
-  same-some : (p : Put) → Some put ≡ Some p → put ≡ p
+  same-some : (p : Substitute) → Some put ≡ Some p → put ≡ p
   same-some p e = cc
 
-  fits-each : (x : ℕ) (p : Put) → slice_get after x ≡ Some (Some p) → FitsRule rules (ranked_with ranked parts) (built_count after) x p
+  fits-each : (x : ℕ) (p : Substitute) → slice_get after x ≡ Some (Some p) → FitsRule rules (ranked_with ranked parts) (built_count after) x p
   fits-each x p e = elim (get-set puts rule x (Some put) (Some p) e) [
     | inl h ↦ subst (λ n. FitsRule rules (ranked_with ranked parts) (built_count after) n p) (sym h.0)
         (subst (λ q. FitsRule rules (ranked_with ranked parts) (built_count after) rule q) (same-some p h.1) fits-new)
@@ -226,21 +229,21 @@ and_false false = refl
 not_all-later : (a built ready all : Bool) → built ≡ true → (built && ready) ≡ false → (ready ≡ false → all ≡ false) → (a && all) ≡ false
 not_all-later a built ready all t e h = ap (λ b. a && b) (h (ap (λ b. b && ready) (sym t) ∙ e)) ∙ and_false a
 
-not_all-by : (puts : List (Option Put)) (rule : ℕ) (a ready all : Bool) (f : Option (Option Put)) → slice_get puts rule ≡ f →
+not_all-by : (puts : List (Option Substitute)) (rule : ℕ) (a ready all : Bool) (f : Option (Option Substitute)) → slice_get puts rule ≡ f →
     (slice_get puts rule ≡ Some None → a ≡ false)
-    → (is_built puts rule && ready) ≡ false → (ready ≡ false → all ≡ false) → (a && all) ≡ false
-not_all-by puts rule a ready all None k none e h = not_all-later a (is_built puts rule) ready all (ap is_built_found k) e h
+    → (is_settled puts rule && ready) ≡ false → (ready ≡ false → all ≡ false) → (a && all) ≡ false
+not_all-by puts rule a ready all None k none e h = not_all-later a (is_settled puts rule) ready all (ap is_built_found k) e h
 not_all-by puts rule a ready all (Some None) k none e h = ap (λ b. b && all) (none k)
-not_all-by puts rule a ready all (Some (Some put)) k none e h = not_all-later a (is_built puts rule) ready all (ap is_built_found k) e h
+not_all-by puts rule a ready all (Some (Some put)) k none e h = not_all-later a (is_settled puts rule) ready all (ap is_built_found k) e h
 
-not_all : (test : ℕ → Bool) (puts : List (Option Put)) (body : List Part) → ((x : ℕ) → slice_get puts x ≡ Some None → test x ≡ false) →
+not_all : (test : ℕ → Bool) (puts : List (Option Substitute)) (body : List Part) → ((x : ℕ) → slice_get puts x ≡ Some None → test x ≡ false) →
     is_ready puts body ≡ false → list_all (part_ends test) body ≡ false
 not_all test puts [] h e = absurd (true≢false e)
 not_all test puts (Own thing ∷ body) h e = not_all test puts body h e
 not_all test puts (Puts rule ∷ body) h e =
     not_all-by puts rule (test rule) (is_ready puts body) (list_all (part_ends test) body) (slice_get puts rule) refl (h rule) e (not_all test puts body h)
 
-not-ends : (rules : List (List Part)) (puts : List (Option Put)) → IsClosed rules puts → (depth rule : ℕ) → slice_get puts rule ≡ Some None →
+not-ends : (rules : List (List Part)) (puts : List (Option Substitute)) → IsClosed rules puts → (depth rule : ℕ) → slice_get puts rule ≡ Some None →
     ends_within depth rules rule ≡ false
 not-ends rules puts closed zero rule e = refl
 not-ends rules puts closed (suc depth) rule e = not_all (ends_within depth rules) puts (body_of rules rule) (λ x h. not-ends rules puts closed depth x h)
@@ -248,21 +251,21 @@ not-ends rules puts closed (suc depth) rule e = not_all (ends_within depth rules
 
 -- Once no rule is left
 
-module _ (rules ranked : List (List Part)) (puts : List (Option Put)) (fits : Fits rules ranked puts) (closed : IsClosed rules puts) where
+module _ (rules ranked : List (List Part)) (puts : List (Option Substitute)) (fits : Fits rules ranked puts) (closed : IsClosed rules puts) where
   count-below : built_count puts ≤ length rules
   count-below = let h : built_count puts ≤ length puts = count_by-le-length is_some puts in omega (arith, h, fits.whole)
 
-  ends-by : (rule : ℕ) (f : Option (Option Put)) → slice_get puts rule ≡ f → is_built_found f ≡ ends rules rule
+  ends-by : (rule : ℕ) (f : Option (Option Substitute)) → slice_get puts rule ≡ f → is_built_found f ≡ ends rules rule
   ends-by rule None e = sym (absent-ends rules rule (length rules) (absent-body puts rules rule fits.whole e))
   ends-by rule (Some None) e = sym (not-ends rules puts closed (most_depth rules) rule e)
   ends-by rule (Some (Some put)) e =
       let r : FitsRule rules ranked (built_count puts) rule put = fits.each rule put e in
       sym (ends-le (suc (built_count puts)) (most_depth rules) (omega (arith, count-below)) rules rule r.ends_there)
 
-  pub built-ends : (rule : ℕ) → is_built puts rule ≡ ends rules rule
+  pub built-ends : (rule : ℕ) → is_settled puts rule ≡ ends rules rule
   built-ends rule = ends-by rule (slice_get puts rule) refl
 
-  put-by : (rule : ℕ) (f : Option (Option Put)) → slice_get puts rule ≡ f →
+  put-by : (rule : ℕ) (f : Option (Option Substitute)) → slice_get puts rule ≡ f →
       flat_map (things_of (found (things_behind ranked))) (parts_found f) ≡ things_put rules rule
   put-by rule None e =
       sym (ap (λ b. things_where b (most_depth rules) rules rule) (sym (built-ends rule) ∙ ap is_built_found e) ∙
@@ -282,7 +285,7 @@ module _ (rules ranked : List (List Part)) (puts : List (Option Put)) (fits : Fi
 
 -- Loops
 
-pub next-parts : (rules : List (List Part)) (puts : List (Option Put)) (rule : ℕ) → is_next rules puts rule ≡ true → (slice_get puts rule ≡ Some None) ×
+pub next-parts : (rules : List (List Part)) (puts : List (Option Substitute)) (rule : ℕ) → is_next rules puts rule ≡ true → (slice_get puts rule ≡ Some None) ×
     (is_ready puts (body_of rules rule) ≡ true)
 next-parts rules puts rule e = (
   unbuilt-found (slice_get puts rule) (and-left (is_unbuilt_found (slice_get puts rule)) (is_ready puts (body_of rules rule)) e),
@@ -290,10 +293,10 @@ next-parts rules puts rule e = (
 )
 
 -- none so far is next
-abbrev pub NoneNext : List (List Part) → List (Option Put) → ℕ → Type 0
+abbrev pub NoneNext : List (List Part) → List (Option Substitute) → ℕ → Type 0
 NoneNext rules puts n = (rule : ℕ) → rule < n → is_next rules puts rule ≡ false
 
-pub none-more : (rules : List (List Part)) (puts : List (Option Put)) (n : ℕ) → NoneNext rules puts n → is_next rules puts n ≡ false →
+pub none-more : (rules : List (List Part)) (puts : List (Option Substitute)) (n : ℕ) → NoneNext rules puts n → is_next rules puts n ≡ false →
     NoneNext rules puts (n + 1)
 none-more rules puts n h e = λ rule l. by rule l (nat_eq rule n) refl
   where
@@ -301,19 +304,20 @@ none-more rules puts n h e = λ rule l. by rule l (nat_eq rule n) refl
     by rule l true q = let same : rule ≡ n = grind (arith, nat_tests) in ap (is_next rules puts) same ∙ e
     by rule l false q = h rule (grind (arith, nat_tests))
 
-pub none-closed : (rules : List (List Part)) (puts : List (Option Put)) (n : ℕ) → length puts ≤ n → NoneNext rules puts n → IsClosed rules puts
+pub none-closed : (rules : List (List Part)) (puts : List (Option Substitute)) (n : ℕ) → length puts ≤ n → NoneNext rules puts n → IsClosed rules puts
 none-closed rules puts n h none = λ rule e.
     ap (λ f. is_unbuilt_found f && is_ready puts (body_of rules rule)) (sym e) ∙
     none rule (let l : rule < length puts = slice_get_within puts rule None e in omega (arith, l, h))
 
-pub fewer-unbuilt : (rules ranked : List (List Part)) (before after : List (Option Put)) (n m k : ℕ) → n ≡ length rules → Fits rules ranked after →
+pub fewer-unbuilt : (rules ranked : List (List Part)) (before after : List (Option Substitute)) (n m k : ℕ) → n ≡ length rules → Fits rules ranked after →
     m ≡ built_count before → k ≡ m + 1 → k ≡ built_count after → n - k < n - m
 fewer-unbuilt rules ranked before after n m k e fits a b c =
     let h : built_count after ≤ length after = count_by-le-length is_some after in
     omega (arith, e, fits.whole, a, b, c, h)
 
 -- a rule built
-pub build-fits : (rules ranked ranked_after : List (List Part)) (puts puts_after : List (Option Put)) (rule : ℕ) (made : List Part) (put_there : Put) →
+pub build-fits : (rules ranked ranked_after : List (List Part)) (puts puts_after : List (Option Substitute)) (rule : ℕ) (made : List Part) (put_there :
+    Substitute) →
     Fits rules ranked puts → is_next rules puts rule ≡ true
     → made ≡ built_body puts (body_of rules rule) → ranked_after ≡ ranked_with ranked made → put_there ≡ put_with ranked made →
     puts_after ≡ set puts rule (Some put_there)

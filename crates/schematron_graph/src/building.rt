@@ -10,7 +10,7 @@ use std::alloc::{AllocError, Global};
 
 /// What stands at the place of a rule that ends.
 #[derive(Clone, Copy, PartialEq, Eq)]
-pub(crate) enum Put {
+pub(crate) enum Substitute {
     Nothing,
     /// A thing, or a rank of two parts or more.
     One(Part),
@@ -20,12 +20,12 @@ pub(crate) enum Put {
 #[derive(Drop)]
 pub(crate) struct Built {
     pub ranked: Ranked,
-    pub puts: Vec<Option<Put>>,
+    pub puts: Vec<Option<Substitute>>,
 }
 
 /// Whether the rule is built, or isn't there.
-pub(crate) fn is_built(puts: &[Option<Put>], rule: usize) -> bool
-    ensures { result ≡ spec.is_built puts.now rule }
+pub(crate) fn is_settled(puts: &[Option<Substitute>], rule: usize) -> bool
+    ensures { result ≡ spec.is_settled puts.now rule }
 {
     match puts.get(rule) {
         Some(put) => put.is_some(),
@@ -33,17 +33,17 @@ pub(crate) fn is_built(puts: &[Option<Put>], rule: usize) -> bool
     }
 }
 
-fn is_ready_part(puts: &[Option<Put>], part: Part) -> bool
+fn is_ready_part(puts: &[Option<Substitute>], part: Part) -> bool
     ensures { result ≡ spec.is_ready_part puts.now part }
 {
     match part {
         Part::Own(_) => true,
-        Part::Puts(rule) => is_built(puts, rule),
+        Part::Puts(rule) => is_settled(puts, rule),
     }
 }
 
 /// Whether all rules that the body puts are built.
-fn is_ready(puts: &[Option<Put>], body: &[Part]) -> bool
+fn is_ready(puts: &[Option<Substitute>], body: &[Part]) -> bool
     ensures { result ≡ spec.is_ready puts.now body.now }
 {
     'parts: for part in body {
@@ -55,14 +55,14 @@ fn is_ready(puts: &[Option<Put>], body: &[Part]) -> bool
 }
 
 /// What stands at the place of a part.
-pub(crate) fn built_part(puts: &[Option<Put>], part: Part) -> Put
+pub(crate) fn built_part(puts: &[Option<Substitute>], part: Part) -> Substitute
     ensures { spec.parts_put result ≡ spec.built_part puts.now part }
 {
     match part {
-        Part::Own(_) => Put::One(part),
+        Part::Own(_) => Substitute::One(part),
         Part::Puts(rule) => match puts.get(rule) {
             Some(Some(put)) => *put,
-            Some(None) | None => Put::Nothing,
+            Some(None) | None => Substitute::Nothing,
         },
     }
 }
@@ -70,7 +70,7 @@ pub(crate) fn built_part(puts: &[Option<Put>], part: Part) -> Put
 /// A body with what stands at the places of the rules that it puts.
 pub(crate) fn built_body(
     alloc: Global,
-    puts: &[Option<Put>],
+    puts: &[Option<Substitute>],
     body: &[Part],
 ) -> Result<Vec<Part>, AllocError>
     ensures { IfOk result (λ parts. parts.items ≡ spec.built_body puts.now body.now) }
@@ -82,12 +82,12 @@ pub(crate) fn built_body(
     Ok(parts)
 }
 
-fn push_put(parts: &mut Vec<Part>, put: Put) -> Result<(), AllocError>
+fn push_put(parts: &mut Vec<Part>, put: Substitute) -> Result<(), AllocError>
     ensures { OnOk result (parts.new.items ≡ parts.old.items ++ spec.parts_put put) }
 {
     match put {
-        Put::Nothing => Ok(()),
-        Put::One(part) => {
+        Substitute::Nothing => Ok(()),
+        Substitute::One(part) => {
             parts.push(part)?;
             Ok(())
         }
@@ -104,7 +104,7 @@ pub(crate) fn body(rules: &[Vec<Part>], rule: usize) -> &[Part]
     }
 }
 
-fn is_unbuilt(puts: &[Option<Put>], rule: usize) -> bool
+fn is_unbuilt(puts: &[Option<Substitute>], rule: usize) -> bool
     ensures { result ≡ spec.is_unbuilt_found (slice_get puts.now rule) }
 {
     match puts.get(rule) {
@@ -114,14 +114,14 @@ fn is_unbuilt(puts: &[Option<Put>], rule: usize) -> bool
 }
 
 /// Whether the rule isn't built and those that it puts are.
-fn is_next(rules: &[Vec<Part>], puts: &[Option<Put>], rule: usize) -> bool
+fn is_next(rules: &[Vec<Part>], puts: &[Option<Substitute>], rule: usize) -> bool
     ensures { result ≡ spec.is_next (bodies_of rules.now) puts.now rule }
 {
     is_unbuilt(puts, rule) && is_ready(puts, body(rules, rule))
 }
 
 /// The first rule that is next.
-fn first_next(rules: &[Vec<Part>], puts: &[Option<Put>]) -> Option<usize>
+fn first_next(rules: &[Vec<Part>], puts: &[Option<Substitute>]) -> Option<usize>
     requires { length puts.now ≡ length rules.now }
     ensures some { IfSome result (λ rule. spec.is_next (bodies_of rules.now) puts.now rule ≡ true) }
     ensures none { IfNone result (spec.IsClosed (bodies_of rules.now) puts.now) }
@@ -135,19 +135,19 @@ fn first_next(rules: &[Vec<Part>], puts: &[Option<Put>]) -> Option<usize>
 }
 
 /// Ranks a body, if it has two parts or more, and answers what stands at its place.
-fn rank(ranked: &mut Ranked, parts: Vec<Part>) -> Result<Put, AllocError>
+fn rank(ranked: &mut Ranked, parts: Vec<Part>) -> Result<Substitute, AllocError>
     requires { list_all (is_below (length ranked.old)) parts.items ≡ true }
     ensures ranked { OnOk result (ranked.new ≡ spec.ranked_with ranked.old parts.items) }
     ensures put { IfOk result (λ put. put ≡ spec.put_with ranked.old parts.items) }
 {
     match parts.as_slice() {
-        [] => return Ok(Put::Nothing),
-        [part] => return Ok(Put::One(*part)),
+        [] => return Ok(Substitute::Nothing),
+        [part] => return Ok(Substitute::One(*part)),
         _ => {}
     }
     let rank = ranked.len();
     ranked.push(parts)?;
-    Ok(Put::One(Part::Puts(rank)))
+    Ok(Substitute::One(Part::Puts(rank)))
 }
 
 /// Builds a rule that is next.
@@ -168,7 +168,7 @@ fn build(
     Ok(())
 }
 
-fn set_put(puts: &mut Vec<Option<Put>>, rule: usize, put: Put)
+fn set_put(puts: &mut Vec<Option<Substitute>>, rule: usize, put: Substitute)
     requires { rule < length puts.old.items }
     ensures { puts.new.items ≡ set puts.old.items rule (Some put) }
 {

@@ -8,11 +8,11 @@ ghost use Rattle.schematron_graph.specs.Back.{IsFirstBack};
 ghost use Rattle.schematron_graph.specs.Built.{built_body, parts_put};
 
 use crate::back::first_back;
-use crate::building::{Put, build_all, built_body, built_part, is_built};
+use crate::budget::Budget;
+use crate::building::{Substitute, build_all, built_body, built_part, is_settled};
 use crate::guess::guessed;
 use crate::part::{Part, Spot, Thing};
 use crate::ranked::Ranked;
-use crate::turns::Turns;
 use std::alloc::{AllocError, Global};
 use std::marker::Model;
 
@@ -20,7 +20,7 @@ use std::marker::Model;
 pub struct Graph {
     rules: Vec<Vec<Part>>,
     ranked: Ranked,
-    puts: Vec<Option<Put>>,
+    puts: Vec<Option<Substitute>>,
     labels: Vec<usize>,
 }
 
@@ -71,7 +71,7 @@ impl Graph {
     pub fn ends(&self, rule: usize) -> bool
         ensures { result ≡ ends self.now rule }
     {
-        is_built(&self.puts, rule)
+        is_settled(&self.puts, rule)
     }
 
     /// The first part, in the order of the rules and of their parts, that puts the rule in which it stands or one that
@@ -97,7 +97,7 @@ impl Graph {
     pub fn firsts(
         &self,
         alloc: Global,
-        left: &mut Turns,
+        left: &mut Budget,
         body: &[Part],
     ) -> Result<Vec<Thing>, AllocError>
         ensures { IfOk result (λ things. things.items ≡ firsts (expansion self.now body.now)) }
@@ -121,7 +121,7 @@ impl Graph {
     }
 }
 
-fn size_of_parts(ranked: &Ranked, puts: &[Option<Put>], parts: &[Part]) -> u64
+fn size_of_parts(ranked: &Ranked, puts: &[Option<Substitute>], parts: &[Part]) -> u64
     ensures { result ≡ count_of (flat_map (things_of (found (things_behind ranked.now))) (built_body puts.now parts.now)) }
 {
     let mut size = 0u64;
@@ -131,11 +131,11 @@ fn size_of_parts(ranked: &Ranked, puts: &[Option<Put>], parts: &[Part]) -> u64
     size
 }
 
-fn size_of_put(ranked: &Ranked, put: Put) -> u64
+fn size_of_put(ranked: &Ranked, put: Substitute) -> u64
     ensures { result ≡ count_of (flat_map (things_of (found (things_behind ranked.now))) (parts_put put)) }
 {
     match put {
-        Put::Nothing => 0,
-        Put::One(part) => ranked.size(&[part]),
+        Substitute::Nothing => 0,
+        Substitute::One(part) => ranked.size(&[part]),
     }
 }

@@ -102,11 +102,11 @@ fn zeros(alloc: Global, count: usize) -> Result<Vec<usize>, AllocError> {
 
 /// How many turns the walk takes at most: one for each part, two for each rule.
 fn turns_of(rules: &[Vec<Part>]) -> usize {
-    let mut turns = 1usize;
+    let mut budget = 1usize;
     'rules: for body in rules {
-        turns = turns.saturating_add(body.len()).saturating_add(2);
+        budget = budget.saturating_add(body.len()).saturating_add(2);
     }
-    turns
+    budget
 }
 
 pub(crate) fn guessed(alloc: Global, rules: &[Vec<Part>]) -> Result<Guess, AllocError> {
@@ -123,10 +123,10 @@ pub(crate) fn guessed(alloc: Global, rules: &[Vec<Part>]) -> Result<Guess, Alloc
 /// Goes over all rules.
 fn walk_all(alloc: Global, rules: &[Vec<Part>], walk: &mut Walk) -> Result<(), AllocError> {
     walk.make_room(alloc, rules.len())?;
-    let turns = turns_of(rules);
+    let budget = turns_of(rules);
     'roots: for root in 0..rules.len() {
         if get(&walk.met, root) == 0 {
-            walk_from(rules, walk, root, turns)?;
+            walk_from(rules, walk, root, budget)?;
         }
     }
     Ok(())
@@ -137,10 +137,10 @@ fn walk_from(
     rules: &[Vec<Part>],
     walk: &mut Walk,
     root: usize,
-    turns: usize,
+    budget: usize,
 ) -> Result<(), AllocError> {
     meet(walk, root)?;
-    'turns: for _ in 0..turns {
+    'budget: for _ in 0..budget {
         match walk.path.pop() {
             Some(step) => turn(rules, walk, step)?,
             None => return Ok(()),

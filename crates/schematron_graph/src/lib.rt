@@ -5,15 +5,15 @@
 #![tactic(auto)]
 
 mod back;
+mod budget;
 mod building;
 mod graph;
 mod guess;
 mod once;
 mod part;
 mod ranked;
-mod turns;
 mod walk;
 
+pub use budget::Budget;
 pub use graph::Graph;
 pub use part::{Part, Spot, Thing};
-pub use turns::Turns;

@@ -8,8 +8,8 @@ ghost use Rattle.schematron_graph.specs.Firsts.{firsts, firsts_behind};
 ghost use Rattle.schematron_graph.specs.Ranked.{found, things_behind, are_ranked};
 ghost use Rattle.schematron_graph.specs.Once as spec;
 
+use crate::budget::Budget;
 use crate::part::{Part, Thing};
-use crate::turns::Turns;
 use crate::walk::{Place, part_at};
 use indexmap::IndexSet;
 use std::alloc::{AllocError, Global};
@@ -18,7 +18,7 @@ use std::alloc::{AllocError, Global};
 /// and to the rules that it reaches, and a turn for each part of them and for each end of a rule.
 pub(crate) fn firsts_of_body(
     alloc: Global,
-    left: &mut Turns,
+    left: &mut Budget,
     bodies: &[Vec<Part>],
     body: &[Part],
 ) -> Result<Vec<Thing>, AllocError>
@@ -59,7 +59,7 @@ fn push_first(
 /// The things of a body, with those of each rule at the first place at least where it is put.
 fn once(
     alloc: Global,
-    left: &mut Turns,
+    left: &mut Budget,
     bodies: &[Vec<Part>],
     body: &[Part],
 ) -> Result<Vec<Thing>, AllocError>
@@ -82,7 +82,7 @@ fn once(
 /// Adds the things of each part, where nothing was gone over.
 fn push_parts(
     alloc: Global,
-    left: &mut Turns,
+    left: &mut Budget,
     bodies: &[Vec<Part>],
     body: &[Part],
     gone: &mut IndexSet<usize>,
@@ -103,7 +103,7 @@ fn push_parts(
 /// Adds the things of a part, unless it puts a rule that was gone over.
 fn push_part_once(
     alloc: Global,
-    left: &mut Turns,
+    left: &mut Budget,
     bodies: &[Vec<Part>],
     part: Part,
     gone: &mut IndexSet<usize>,
@@ -132,7 +132,7 @@ fn push_part_once(
 /// met, since each puts only rules of smaller ranks.
 fn push_once(
     alloc: Global,
-    left: &mut Turns,
+    left: &mut Budget,
     bodies: &[Vec<Part>],
     rank: usize,
     gone: &mut IndexSet<usize>,
@@ -145,7 +145,7 @@ fn push_once(
 {
     let mut above = Vec::new(alloc);
     let mut place = Place { rank, next: 0 };
-    'turns: loop {
+    'budget: loop {
         left.take()?;
         match part_at(bodies, place) {
             Some(Part::Own(thing)) => {

@@ -6,9 +6,9 @@ ghost use Rattle.schematron_graph.specs.Counts.{count_of};
 ghost use Rattle.schematron_graph.specs.Firsts.{firsts};
 ghost use Rattle.schematron_graph.specs.Ranked.{found, things_behind, is_below, are_ranked};
 
+use crate::budget::Budget;
 use crate::once::firsts_of_body;
 use crate::part::{Part, Thing};
-use crate::turns::Turns;
 use crate::walk::{push_thing, push_things};
 use std::alloc::{AllocError, Global};
 use std::marker::Model;
@@ -95,7 +95,7 @@ impl Ranked {
     pub fn firsts(
         &self,
         alloc: Global,
-        left: &mut Turns,
+        left: &mut Budget,
         body: &[Part],
     ) -> Result<Vec<Thing>, AllocError>
         ensures { IfOk result (λ things. things.items ≡ firsts (flat_map (things_of (found (things_behind self.now))) body.now)) }

@@ -50,7 +50,7 @@ pub(crate) fn push_things(
 {
     let mut above = Vec::new(alloc);
     let mut place = Place { rank, next: 0 };
-    'turns: loop {
+    'budget: loop {
         match part_at(bodies, place) {
             Some(Part::Own(thing)) => {
                 push_thing(most, thing, out)?;

@@ -23,7 +23,7 @@ file_of es = record { entries = es; rules = abstract_rules es; bodies = bodies e
 
 -- A let or an assertion in a rule, with the element at which its faults stand where that isn't itself: the one by which
 -- it was put there. Of several it is the outermost.
-pub record Put : Type 0 where
+pub record Inclusion : Type 0 where
   pub stand : Option ℕ
   pub entry : Entry
 
@@ -31,11 +31,11 @@ abbrev pub or_itself : Option ℕ → ℕ → ℕ
 or_itself None n = n
 or_itself (Some stand) n = stand
 
-abbrev pub put_at_stand : Option ℕ → Entry → Put
+abbrev pub put_at_stand : Option ℕ → Entry → Inclusion
 put_at_stand stand e = record { stand = stand; entry = e }
 
 -- what stands at the place of an `extends`
-abbrev pub put_at : File → Option ℕ → Option ℕ → List Put
+abbrev pub put_at : File → Option ℕ → Option ℕ → List Inclusion
 put_at file stand None = []
 put_at file stand (Some rule) = flat_map (λ (thing : Thing). map (put_at_stand stand) (at_node file.entries thing.number)) (things_put file.bodies rule)
 
@@ -43,13 +43,13 @@ put_at file stand (Some rule) = flat_map (λ (thing : Thing). map (put_at_stand 
 abbrev pub outer_of : Option ℕ → ℕ → Option ℕ
 outer_of stand n = Some (or_itself stand n)
 
-abbrev pub puts_by : Role → File → Option ℕ → Entry → List Put
+abbrev pub puts_by : Role → File → Option ℕ → Entry → List Inclusion
 puts_by r.Extends file stand e = put_at file (outer_of stand e.number) (put_by file.rules e)
 puts_by _ file stand e = put_at_stand stand e ∷ []
 
 -- the lets and assertions of a rule, where all stand at one element if one is given
-abbrev pub puts : File → Option ℕ → ℕ → List Put
-puts file stand n = flat_map (λ (e : Entry). puts_by e.role file stand e) (inside is_item file.entries n)
+abbrev pub inclusions : File → Option ℕ → ℕ → List Inclusion
+inclusions file stand n = flat_map (λ (e : Entry). puts_by e.role file stand e) (inside is_item file.entries n)
 
 -- A pattern that is judged, with the element whose lets and rules it has: its own, or those of the one that it uses.
 -- Faults of the latter stand at the pattern that uses it.

@@ -20,7 +20,7 @@ use Rattle.schematron_meaning.specs.declared.role.Role.TheVariants as r
 use Rattle.schematron_meaning.specs.Entries.{Entry, entries}
 use Rattle.schematron_meaning.specs.Lookup.{attribute, says, the_schema, is_let, is_phase, is_active, is_own_rule, is_assertion, is_part, of_role, inside}
 use Rattle.schematron_texts.specs.Replacing.{Parameter, replaced}
-use Rattle.schematron_meaning.specs.Expansion.{File, file_of, Put, puts, Instance, instances}
+use Rattle.schematron_meaning.specs.Expansion.{File, file_of, Inclusion, inclusions, Instance, instances}
 use Rattle.schematron_meaning.specs.Written.{prefixes, name_of, with_let, with_lets, schema_scope, outer_scope, pattern_scope, lets_among}
 use Rattle.schematron_meaning.specs.declared.fault.Fault.{Fault}
 use Rattle.schematron_meaning.specs.declared.fault.ExpressionFault.{ExpressionFault}
@@ -138,14 +138,14 @@ assertion_of es params scope e =
     }
 
 -- the assertions among what a rule has
-abbrev pub assertions_among : List Put → List Entry
-assertions_among found = of_role is_assertion (map (λ (put : Put). put.entry) found)
+abbrev pub assertions_among : List Inclusion → List Entry
+assertions_among found = of_role is_assertion (map (λ (inclusion : Inclusion). inclusion.entry) found)
 
 -- Rules and patterns
 
 abbrev pub rule_of : File → Instance → Declared → Entry → Rule
 rule_of file instance outer rule =
-    let found : List Put = puts file instance.stand rule.number in
+    let found : List Inclusion = inclusions file instance.stand rule.number in
     let lets : List Entry = lets_among found in
     record {
       context = shown a.Context true instance.params outer rule;

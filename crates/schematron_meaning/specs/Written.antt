@@ -8,7 +8,7 @@ use Rattle.schematron_meaning.specs.declared.role.Role.{Role}
 use Rattle.schematron_meaning.specs.Entries.{Entry}
 use Rattle.schematron_meaning.specs.Lookup.{attribute, the_schema, is_let, is_phase, is_namespace, is_own_rule, is_part, of_role, inside}
 use Rattle.schematron_texts.specs.Replacing.{Parameter, replaced}
-use Rattle.schematron_meaning.specs.Expansion.{File, Put, or_itself, puts, Instance, instances}
+use Rattle.schematron_meaning.specs.Expansion.{File, Inclusion, or_itself, inclusions, Instance, instances}
 
 -- An expression: the element at which its faults stand, the one that holds it, the attribute, whether it is to be a
 -- pattern, its text, and what is declared around it.
@@ -81,26 +81,26 @@ written_lets before [] = []
 written_lets before (e ∷ lets) = written_let None [] before e ++ written_lets (with_let [] before e) lets
 
 -- a test, and what its message asks for
-abbrev pub written_assertion : List Entry → List Parameter → Declared → Put → List Written
-written_assertion es params all put = written a.Test false put.stand params all put.entry
-    ++ flat_map (λ (part : Entry). written a.Select false put.stand params all part) (inside is_part es put.entry.number)
+abbrev pub written_assertion : List Entry → List Parameter → Declared → Inclusion → List Written
+written_assertion es params all inclusion = written a.Test false inclusion.stand params all inclusion.entry
+    ++ flat_map (λ (part : Entry). written a.Select false inclusion.stand params all part) (inside is_part es inclusion.entry.number)
 
 -- Lets and assertions of a rule: a let sees those before it, an assertion all.
-abbrev pub written_puts : List Entry → List Parameter → Declared → Declared → List Put → List Written
+abbrev pub written_puts : List Entry → List Parameter → Declared → Declared → List Inclusion → List Written
 written_puts es params all before [] = []
-written_puts es params all before (put ∷ others) = elim (is_let put.entry.role) [
-  | true ↦ written_let put.stand params before put.entry ++ written_puts es params all (with_let params before put.entry) others
-  | false ↦ written_assertion es params all put ++ written_puts es params all before others
+written_puts es params all before (inclusion ∷ others) = elim (is_let inclusion.entry.role) [
+  | true ↦ written_let inclusion.stand params before inclusion.entry ++ written_puts es params all (with_let params before inclusion.entry) others
+  | false ↦ written_assertion es params all inclusion ++ written_puts es params all before others
 ]
 
 -- the lets among them
-abbrev pub lets_among : List Put → List Entry
-lets_among found = of_role is_let (map (λ (put : Put). put.entry) found)
+abbrev pub lets_among : List Inclusion → List Entry
+lets_among found = of_role is_let (map (λ (inclusion : Inclusion). inclusion.entry) found)
 
 -- A rule in a pattern: its own lets aren't there yet where its context is looked for.
 abbrev pub written_rule : File → Instance → Declared → Entry → List Written
 written_rule file instance outer rule =
-    let found : List Put = puts file instance.stand rule.number in
+    let found : List Inclusion = inclusions file instance.stand rule.number in
     written a.Context true instance.stand instance.params outer rule
     ++ written_puts file.entries instance.params (with_lets instance.params outer (lets_among found)) outer found
 

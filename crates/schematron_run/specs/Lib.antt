@@ -1,6 +1,6 @@
 pub mod Judging
 pub mod Contexts
-pub mod Scenes
+pub mod Inputs
 pub mod Ready
 pub mod Telling
 pub mod Firsts

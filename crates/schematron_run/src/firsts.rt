@@ -8,9 +8,9 @@ ghost use Rattle.xpath_steps.specs.Variables.{ValuesWithin};
 ghost use Rattle.schematron_rules.specs.Seen.{seen_rule};
 ghost use Rattle.schematron_run.specs.Contexts.{HasContext};
 ghost use Rattle.schematron_run.specs.Firsts.{entry, is_there, AreBelow, AreFirsts, AreTouched, IsClear, Marked, MarkedBy};
-ghost use Rattle.schematron_run.specs.Scenes.{nodes_of, count};
+ghost use Rattle.schematron_run.specs.Inputs.{nodes_of, count};
 
-use crate::scene::Scene;
+use crate::input::JudgingInput;
 use inv_base::Steps;
 use node_arena::NodeId;
 use schematron_rules::Rule;
@@ -72,7 +72,7 @@ fn mark(
 
 /// Keeps the number of a rule for the nodes that its context matches and of which nothing is kept.
 fn mark_rule<'a, L: Ledger>(
-    scene: &Scene<'_, 'a>,
+    input: &JudgingInput<'_, 'a>,
     rule: &Rule,
     number: u32,
     env: &Env<'a>,
@@ -81,15 +81,15 @@ fn mark_rule<'a, L: Ledger>(
     steps: &mut Steps<L>,
 ) -> Result<(), AllocError>
     requires context { HasContext (seen_rule rule.now) }
-    requires variables { ValuesWithin (count scene.now) env.now }
-    requires long { length table.old ≡ count scene.now }
+    requires variables { ValuesWithin (count input.now) env.now }
+    requires long { length table.old ≡ count input.now }
     requires touched { AreTouched table.old touched.old.items }
-    ensures kept { OnOk result (MarkedBy (nodes_of scene.now) env.now (seen_rule rule.now) number table.old table.new) }
+    ensures kept { OnOk result (MarkedBy (nodes_of input.now) env.now (seen_rule rule.now) number table.old table.new) }
     ensures touched { OnOk result (AreTouched table.new touched.new.items) }
     ensures long { length table.new ≡ length table.old }
 {
-    documents_are_walkable(scene.doc);
-    let marks = marks_of(scene.alloc, &rule.context.plan, scene.doc, env, steps)?;
+    documents_are_walkable(input.doc);
+    let marks = marks_of(input.alloc, &rule.context.plan, input.doc, env, steps)?;
     mark(table, touched, marks.as_slice(), number)
 }
 
@@ -105,26 +105,26 @@ fn behind(number: u32) -> Result<u32, AllocError>
 
 /// Fills a clear table with the first rule of each node. The nodes that have one come in document order.
 pub(crate) fn first_rules<'a, L: Ledger>(
-    scene: &Scene<'_, 'a>,
+    input: &JudgingInput<'_, 'a>,
     rules: &[Rule],
     env: &Env<'a>,
     table: &mut [Option<u32>],
     steps: &mut Steps<L>,
 ) -> Result<Vec<NodeId>, AllocError>
     requires contexts { All HasContext (map seen_rule rules.now) }
-    requires variables { ValuesWithin (count scene.now) env.now }
-    requires long { length table.old ≡ count scene.now }
+    requires variables { ValuesWithin (count input.now) env.now }
+    requires long { length table.old ≡ count input.now }
     requires clear { IsClear table.old }
-    ensures firsts { OnOk result (AreFirsts (nodes_of scene.now) env.now (map seen_rule rules.now) table.new) }
+    ensures firsts { OnOk result (AreFirsts (nodes_of input.now) env.now (map seen_rule rules.now) table.new) }
     ensures touched { IfOk result (λ touched. touched.items ≡ node_numbers
-        (filter (λ (node : Node). is_there (entry table.new node.number)) (nodes_of scene.now))) }
+        (filter (λ (node : Node). is_there (entry table.new node.number)) (nodes_of input.now))) }
     ensures long { length table.new ≡ length table.old }
 {
-    documents_are_walkable(scene.doc);
-    let mut touched = Vec::new(scene.alloc);
+    documents_are_walkable(input.doc);
+    let mut touched = Vec::new(input.alloc);
     let mut number = 0u32;
     'rules: for rule in rules {
-        mark_rule(scene, rule, number, env, table, &mut touched, steps)?;
+        mark_rule(input, rule, number, env, table, &mut touched, steps)?;
         number = behind(number)?;
     }
     Ok(in_order(touched))

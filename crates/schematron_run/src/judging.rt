@@ -6,12 +6,12 @@ ghost use Rattle.schematron_rules.specs.Seen.{seen_rules, seen_active};
 ghost use Rattle.schematron_rules.specs.Said.{CameFrom};
 ghost use Rattle.schematron_run.specs.Contexts.{HasPatterns};
 ghost use Rattle.schematron_run.specs.Judging as spec;
-ghost use Rattle.schematron_run.specs.Scenes.{nodes_of, count, IsSet};
+ghost use Rattle.schematron_run.specs.Inputs.{nodes_of, count, IsSet};
 
+use crate::input::JudgingInput;
 use crate::law::compiled_rules_have_patterns;
 use crate::lets::{fill_once, lets_of};
 use crate::patterns::judge_patterns;
-use crate::scene::Scene;
 use inv_base::Steps;
 use node_arena::Doc;
 use node_locations::Ordinals;
@@ -23,39 +23,39 @@ use xpath_run::Env;
 
 /// The variables of the whole file: the schema's, then those of the phase that is active.
 fn file_variables<'a, L: Ledger>(
-    scene: &Scene<'_, 'a>,
+    input: &JudgingInput<'_, 'a>,
     rules: &'a Rules,
     active: &Active,
     steps: &mut Steps<L>,
 ) -> Result<Env<'a>, AllocError>
-    ensures filled { IfOk result (λ env. env ≡ spec.file_variables (nodes_of scene.now) (seen_rules rules.now) (seen_active active.now)) }
-    ensures within { IfOk result (λ env. ValuesWithin (count scene.now) env) }
+    ensures filled { IfOk result (λ env. env ≡ spec.file_variables (nodes_of input.now) (seen_rules rules.now) (seen_active active.now)) }
+    ensures within { IfOk result (λ env. ValuesWithin (count input.now) env) }
 {
-    let mut env = Env::new(scene.alloc);
-    let document = scene.doc.document();
-    fill_once(scene, rules.all_lets(None), document, &mut env, steps)?;
+    let mut env = Env::new(input.alloc);
+    let document = input.doc.document();
+    fill_once(input, rules.all_lets(None), document, &mut env, steps)?;
     let lets = lets_of(rules, active.phase());
-    fill_once(scene, lets, document, &mut env, steps)?;
+    fill_once(input, lets, document, &mut env, steps)?;
     Ok(env)
 }
 
 /// All that the active patterns find.
 fn found_in<'r: 'a, 'a, L: Ledger>(
-    scene: &Scene<'_, 'a>,
+    input: &JudgingInput<'_, 'a>,
     rules: &'r Rules,
     active: &Active,
     steps: &mut Steps<L>,
 ) -> Result<Findings<'r>, AllocError>
-    requires set { IsSet scene.now }
+    requires set { IsSet input.now }
     requires patterns { HasPatterns (seen_rules rules.now) }
-    ensures { IfOk result (λ found. found ≡ spec.findings (seen_rules rules.now) (seen_active active.now) (nodes_of scene.now)) }
+    ensures { IfOk result (λ found. found ≡ spec.findings (seen_rules rules.now) (seen_active active.now) (nodes_of input.now)) }
 {
-    let mut env = file_variables(scene, rules, active, steps)?;
-    let mut table = vec![in scene.alloc; None; scene.ordinals.len()]?;
+    let mut env = file_variables(input, rules, active, steps)?;
+    let mut table = vec![in input.alloc; None; input.ordinals.len()]?;
     // (the lifetime is that of the rules themselves, and not of this call's loan of them)
-    let mut findings: Findings<'r> = Findings::new(scene.alloc);
+    let mut findings: Findings<'r> = Findings::new(input.alloc);
     judge_patterns(
-        scene,
+        input,
         rules.parts(),
         active.parts(),
         &mut env,
@@ -86,10 +86,10 @@ pub fn judge<'r, L: Ledger>(
     rules.are_of_a_file();
     compiled_rules_have_patterns();
     let ordinals = Ordinals::new(alloc, doc)?;
-    let scene = Scene {
+    let input = JudgingInput {
         alloc,
         doc,
         ordinals: &ordinals,
     };
-    found_in(&scene, rules, active, steps)
+    found_in(&input, rules, active, steps)
 }

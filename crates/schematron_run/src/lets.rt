@@ -5,10 +5,10 @@ ghost use Rattle.xpath_steps.specs.Variables.{ValuesWithin};
 ghost use Rattle.schematron_rules.specs.Seen.{seen_lets, seen_phases};
 ghost use Rattle.schematron_run.specs.Judging as spec;
 ghost use Rattle.schematron_run.specs.Ready.{ready_let, IsLetFor};
-ghost use Rattle.schematron_run.specs.Scenes.{nodes_of, count};
+ghost use Rattle.schematron_run.specs.Inputs.{nodes_of, count};
 
+use crate::input::JudgingInput;
 use crate::ready::{ReadyLet, ready_lets};
-use crate::scene::Scene;
 use crate::values::value_at;
 use inv_base::Steps;
 use node_arena::NodeId;
@@ -20,62 +20,62 @@ use xpath_run::Env;
 /// Declares variables behind the others, each evaluated at the node with those before it. Their number says where to
 /// cut them off again.
 pub(crate) fn fill<'a, L: Ledger>(
-    scene: &Scene<'_, 'a>,
+    input: &JudgingInput<'_, 'a>,
     lets: &mut [ReadyLet<'_, '_, 'a>],
     n: NodeId,
     env: &mut Env<'a>,
     steps: &mut Steps<L>,
 ) -> Result<(), AllocError>
-    requires ready { All (IsLetFor scene.now.doc.now) lets.old }
-    requires within { n < count scene.now }
-    requires variables { ValuesWithin (count scene.now) env.old }
-    ensures filled { OnOk result (env.new ≡ spec.filled (nodes_of scene.now) n (map ready_let lets.old) env.old) }
-    ensures within { OnOk result (ValuesWithin (count scene.now) env.new) }
+    requires ready { All (IsLetFor input.now.doc.now) lets.old }
+    requires within { n < count input.now }
+    requires variables { ValuesWithin (count input.now) env.old }
+    ensures filled { OnOk result (env.new ≡ spec.filled (nodes_of input.now) n (map ready_let lets.old) env.old) }
+    ensures within { OnOk result (ValuesWithin (count input.now) env.new) }
     ensures same { OnOk result (map ready_let lets.new ≡ map ready_let lets.old) }
-    ensures ready { OnOk result (All (IsLetFor scene.now.doc.now) lets.new) }
+    ensures ready { OnOk result (All (IsLetFor input.now.doc.now) lets.new) }
 {
     'lets: for k in 0..lets.len() {
-        fill_one(scene, &mut lets[k], n, env, steps)?;
+        fill_one(input, &mut lets[k], n, env, steps)?;
     }
     Ok(())
 }
 
 /// Declares one variable.
 fn fill_one<'a, L: Ledger>(
-    scene: &Scene<'_, 'a>,
+    input: &JudgingInput<'_, 'a>,
     variable: &mut ReadyLet<'_, '_, 'a>,
     n: NodeId,
     env: &mut Env<'a>,
     steps: &mut Steps<L>,
 ) -> Result<(), AllocError>
-    requires ready { IsLetFor scene.now.doc.now variable.old }
-    requires within { n < count scene.now }
-    requires variables { ValuesWithin (count scene.now) env.old }
-    ensures filled { OnOk result (env.new ≡ spec.filled (nodes_of scene.now) n (ready_let variable.old ∷ []) env.old) }
-    ensures within { OnOk result (ValuesWithin (count scene.now) env.new) }
+    requires ready { IsLetFor input.now.doc.now variable.old }
+    requires within { n < count input.now }
+    requires variables { ValuesWithin (count input.now) env.old }
+    ensures filled { OnOk result (env.new ≡ spec.filled (nodes_of input.now) n (ready_let variable.old ∷ []) env.old) }
+    ensures within { OnOk result (ValuesWithin (count input.now) env.new) }
     ensures same { OnOk result (ready_let variable.new ≡ ready_let variable.old) }
-    ensures ready { OnOk result (IsLetFor scene.now.doc.now variable.new) }
+    ensures ready { OnOk result (IsLetFor input.now.doc.now variable.new) }
 {
-    let outcome = value_at(scene, &mut variable.run, n, env, steps)?;
+    let outcome = value_at(input, &mut variable.run, n, env, steps)?;
     env.push(variable.name.as_str(), outcome)?;
     Ok(())
 }
 
 /// Declares variables that are evaluated once, and are made ready for that alone.
 pub(crate) fn fill_once<'a, L: Ledger>(
-    scene: &Scene<'_, 'a>,
+    input: &JudgingInput<'_, 'a>,
     lets: &'a [Let],
     n: NodeId,
     env: &mut Env<'a>,
     steps: &mut Steps<L>,
 ) -> Result<(), AllocError>
-    requires within { n < count scene.now }
-    requires variables { ValuesWithin (count scene.now) env.old }
-    ensures filled { OnOk result (env.new ≡ spec.filled (nodes_of scene.now) n (seen_lets lets.now) env.old) }
-    ensures within { OnOk result (ValuesWithin (count scene.now) env.new) }
+    requires within { n < count input.now }
+    requires variables { ValuesWithin (count input.now) env.old }
+    ensures filled { OnOk result (env.new ≡ spec.filled (nodes_of input.now) n (seen_lets lets.now) env.old) }
+    ensures within { OnOk result (ValuesWithin (count input.now) env.new) }
 {
-    let mut ready = ready_lets(scene, lets)?;
-    let filled = fill(scene, ready.as_mut_slice(), n, env, steps);
+    let mut ready = ready_lets(input, lets)?;
+    let filled = fill(input, ready.as_mut_slice(), n, env, steps);
     drop(ready);
     filled
 }

@@ -3,6 +3,7 @@
 
 mod assertions;
 mod firsts;
+mod input;
 mod judging;
 mod law;
 mod lending;
@@ -11,7 +12,6 @@ mod messages;
 mod nodes;
 mod patterns;
 mod ready;
-mod scene;
 mod values;
 
 pub use judging::judge;

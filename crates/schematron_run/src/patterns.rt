@@ -7,14 +7,14 @@ ghost use Rattle.schematron_rules.specs.Seen.{seen_rule, seen_pattern};
 ghost use Rattle.schematron_run.specs.Contexts.{HasContext, HaveContexts};
 ghost use Rattle.schematron_run.specs.Firsts.{IsClear};
 ghost use Rattle.schematron_run.specs.Judging as spec;
-ghost use Rattle.schematron_run.specs.Scenes.{nodes_of, count, IsSet};
+ghost use Rattle.schematron_run.specs.Inputs.{nodes_of, count, IsSet};
 
 use crate::firsts::{clear, first_rules};
+use crate::input::JudgingInput;
 use crate::lending::lent_label;
 use crate::lets::fill_once;
 use crate::nodes::judge_nodes;
 use crate::ready::ready_rules;
-use crate::scene::Scene;
 use inv_base::Steps;
 use schematron_findings::{Findings, Line};
 use schematron_rules::{Expanded, Rule};
@@ -26,7 +26,7 @@ use xpath_walks::documents_are_walkable;
 /// Judges each node by the first of the rules whose context matches it. The rules are made ready for that, and let go
 /// again. The table is clear before and behind.
 fn judge_by_rules<'r: 'a, 'a, L: Ledger>(
-    scene: &Scene<'_, 'a>,
+    input: &JudgingInput<'_, 'a>,
     rules: &'r [Rule],
     env: &mut Env<'a>,
     table: &mut [Option<u32>],
@@ -34,21 +34,21 @@ fn judge_by_rules<'r: 'a, 'a, L: Ledger>(
     steps: &mut Steps<L>,
 ) -> Result<(), AllocError>
     requires contexts { All HasContext (map seen_rule rules.now) }
-    requires set { IsSet scene.now }
-    requires variables { ValuesWithin (count scene.now) env.old }
-    requires long { length table.old ≡ count scene.now }
+    requires set { IsSet input.now }
+    requires variables { ValuesWithin (count input.now) env.old }
+    requires long { length table.old ≡ count input.now }
     requires clear { IsClear table.old }
     ensures found { OnOk result (findings.new ≡ findings.old
-        ++ flat_map (λ (node : Node). spec.by_first (nodes_of scene.now) env.old node 0 (map seen_rule rules.now)) (nodes_of scene.now)) }
+        ++ flat_map (λ (node : Node). spec.by_first (nodes_of input.now) env.old node 0 (map seen_rule rules.now)) (nodes_of input.now)) }
     ensures env { OnOk result (env.new ≡ env.old) }
     ensures clear { OnOk result (IsClear table.new) }
     ensures long { length table.new ≡ length table.old }
 {
-    documents_are_walkable(scene.doc);
-    let touched = first_rules(scene, rules, env, table, steps)?;
-    let mut ready = ready_rules(scene, rules)?;
+    documents_are_walkable(input.doc);
+    let touched = first_rules(input, rules, env, table, steps)?;
+    let mut ready = ready_rules(input, rules)?;
     judge_nodes(
-        scene,
+        input,
         ready.as_mut_slice(),
         table,
         touched.as_slice(),
@@ -62,7 +62,7 @@ fn judge_by_rules<'r: 'a, 'a, L: Ledger>(
 
 /// Judges all nodes by a pattern. Its variables are cut off behind it.
 fn judge_pattern<'r: 'a, 'a, L: Ledger>(
-    scene: &Scene<'_, 'a>,
+    input: &JudgingInput<'_, 'a>,
     pattern: &'r Expanded,
     env: &mut Env<'a>,
     table: &mut [Option<u32>],
@@ -70,11 +70,11 @@ fn judge_pattern<'r: 'a, 'a, L: Ledger>(
     steps: &mut Steps<L>,
 ) -> Result<(), AllocError>
     requires contexts { HaveContexts (seen_pattern pattern.now) }
-    requires set { IsSet scene.now }
-    requires variables { ValuesWithin (count scene.now) env.old }
-    requires long { length table.old ≡ count scene.now }
+    requires set { IsSet input.now }
+    requires variables { ValuesWithin (count input.now) env.old }
+    requires long { length table.old ≡ count input.now }
     requires clear { IsClear table.old }
-    ensures found { OnOk result (findings.new ≡ findings.old ++ spec.by_pattern (nodes_of scene.now) env.old (seen_pattern pattern.now)) }
+    ensures found { OnOk result (findings.new ≡ findings.old ++ spec.by_pattern (nodes_of input.now) env.old (seen_pattern pattern.now)) }
     ensures env { OnOk result (env.new ≡ env.old) }
     ensures clear { OnOk result (IsClear table.new) }
     ensures long { length table.new ≡ length table.old }
@@ -83,13 +83,13 @@ fn judge_pattern<'r: 'a, 'a, L: Ledger>(
     findings.push(Line::Pattern { id })?;
     let before = env.len();
     fill_once(
-        scene,
+        input,
         pattern.lets.as_slice(),
-        scene.doc.document(),
+        input.doc.document(),
         env,
         steps,
     )?;
-    judge_by_rules(scene, pattern.rules.as_slice(), env, table, findings, steps)?;
+    judge_by_rules(input, pattern.rules.as_slice(), env, table, findings, steps)?;
     env.truncate(before);
     Ok(())
 }
@@ -103,7 +103,7 @@ fn pattern_at(patterns: &[Expanded], k: usize) -> Option<&Expanded>
 
 /// Judges all nodes by the pattern of that number, where there is one.
 fn judge_by_number<'r: 'a, 'a, L: Ledger>(
-    scene: &Scene<'_, 'a>,
+    input: &JudgingInput<'_, 'a>,
     patterns: &'r [Expanded],
     k: usize,
     env: &mut Env<'a>,
@@ -112,24 +112,24 @@ fn judge_by_number<'r: 'a, 'a, L: Ledger>(
     steps: &mut Steps<L>,
 ) -> Result<(), AllocError>
     requires contexts { All HaveContexts (map seen_pattern patterns.now) }
-    requires set { IsSet scene.now }
-    requires variables { ValuesWithin (count scene.now) env.old }
-    requires long { length table.old ≡ count scene.now }
+    requires set { IsSet input.now }
+    requires variables { ValuesWithin (count input.now) env.old }
+    requires long { length table.old ≡ count input.now }
     requires clear { IsClear table.old }
-    ensures found { OnOk result (findings.new ≡ findings.old ++ spec.by_number (nodes_of scene.now) env.old (map seen_pattern patterns.now) k) }
+    ensures found { OnOk result (findings.new ≡ findings.old ++ spec.by_number (nodes_of input.now) env.old (map seen_pattern patterns.now) k) }
     ensures env { OnOk result (env.new ≡ env.old) }
     ensures clear { OnOk result (IsClear table.new) }
     ensures long { length table.new ≡ length table.old }
 {
     match pattern_at(patterns, k) {
         None => Ok(()),
-        Some(pattern) => judge_pattern(scene, pattern, env, table, findings, steps),
+        Some(pattern) => judge_pattern(input, pattern, env, table, findings, steps),
     }
 }
 
 /// Judges all nodes by the patterns of these numbers, one after the other.
 pub(crate) fn judge_patterns<'r: 'a, 'a, L: Ledger>(
-    scene: &Scene<'_, 'a>,
+    input: &JudgingInput<'_, 'a>,
     patterns: &'r [Expanded],
     numbers: &[u32],
     env: &mut Env<'a>,
@@ -138,14 +138,14 @@ pub(crate) fn judge_patterns<'r: 'a, 'a, L: Ledger>(
     steps: &mut Steps<L>,
 ) -> Result<(), AllocError>
     requires contexts { All HaveContexts (map seen_pattern patterns.now) }
-    requires set { IsSet scene.now }
-    requires variables { ValuesWithin (count scene.now) env.old }
-    requires long { length table.old ≡ count scene.now }
+    requires set { IsSet input.now }
+    requires variables { ValuesWithin (count input.now) env.old }
+    requires long { length table.old ≡ count input.now }
     requires clear { IsClear table.old }
-    ensures { OnOk result (findings.new ≡ findings.old ++ flat_map (spec.by_number (nodes_of scene.now) env.old (map seen_pattern patterns.now)) numbers.now) }
+    ensures { OnOk result (findings.new ≡ findings.old ++ flat_map (spec.by_number (nodes_of input.now) env.old (map seen_pattern patterns.now)) numbers.now) }
 {
     'numbers: for k in numbers {
-        judge_by_number(scene, patterns, *k as usize, env, table, findings, steps)?;
+        judge_by_number(input, patterns, *k as usize, env, table, findings, steps)?;
     }
     Ok(())
 }

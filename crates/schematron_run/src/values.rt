@@ -4,9 +4,9 @@ ghost use Rattle.xpath_meaning.specs.Meaning.{mean, at_top, truth_of};
 ghost use Rattle.xpath_meaning.specs.Values.{value};
 ghost use Rattle.xpath_plan.specs.Plans.{expression};
 ghost use Rattle.xpath_steps.specs.Variables.{ValueWithin, ValuesWithin};
-ghost use Rattle.schematron_run.specs.Scenes.{nodes_of, count};
+ghost use Rattle.schematron_run.specs.Inputs.{nodes_of, count};
 
-use crate::scene::Scene;
+use crate::input::JudgingInput;
 use inv_base::Steps;
 use node_arena::NodeId;
 use std::alloc::AllocError;
@@ -18,17 +18,17 @@ use xpath_run::{Env, Run};
 /// The value of the expression of a plan that is ready, at a node, or its error. What it keeps of the document stays for
 /// the next node.
 pub(crate) fn value_at<'a, L: Ledger>(
-    scene: &Scene<'_, 'a>,
+    input: &JudgingInput<'_, 'a>,
     run: &mut Run<'_, '_, 'a>,
     n: NodeId,
     env: &Env<'a>,
     steps: &mut Steps<L>,
 ) -> Result<Outcome<'a>, AllocError>
-    requires ready { run.old.document ≡ scene.now.doc.now }
-    requires within { n < count scene.now }
-    requires variables { ValuesWithin (count scene.now) env.now }
-    ensures value { IfOk result (λ outcome. value outcome ≡ mean (nodes_of scene.now) (expression run.old.plan) (at_top n env.now)) }
-    ensures within { IfOk result (λ outcome. ValueWithin (count scene.now) (value outcome)) }
+    requires ready { run.old.document ≡ input.now.doc.now }
+    requires within { n < count input.now }
+    requires variables { ValuesWithin (count input.now) env.now }
+    ensures value { IfOk result (λ outcome. value outcome ≡ mean (nodes_of input.now) (expression run.old.plan) (at_top n env.now)) }
+    ensures within { IfOk result (λ outcome. ValueWithin (count input.now) (value outcome)) }
     ensures plan { run.new.plan ≡ run.old.plan }
     ensures document { run.new.document ≡ run.old.document }
 {
@@ -37,7 +37,7 @@ pub(crate) fn value_at<'a, L: Ledger>(
         position: 1,
         last: 1,
     };
-    run.run_plan(scene.alloc, &focus, env, steps)
+    run.run_plan(input.alloc, &focus, env, steps)
 }
 
 /// The truth of a value.

@@ -10,7 +10,7 @@ use Rattle.term_table.specs.SemanticModel.{terms, extension_rows, listing_rows}
 use Rattle.term_table.specs.Groups.{parent_of, occurrence_of}
 use Rattle.term_table.specs.Contexts.{root_context}
 use Rattle.term_table.specs.Places.{first_row, comes_before}
-use Rattle.term_table.specs.Rows.{row_in, letter_in}
+use Rattle.term_table.specs.Rows.{row_in, data_type_in}
 use Rattle.term_table.specs.Names.{names, name_of}
 
 bt : ℕ → Term
@@ -44,9 +44,9 @@ row-100 : row_in (bt 1100) None None ≡ None
 unfolding bt terms extension_rows listing_rows parent_of occurrence_of
 row-100 = refl
 
-letter-1 : letter_in (bt 1001) None None ≡ None
+data_type-1 : data_type_in (bt 1001) None None ≡ None
 unfolding bt terms extension_rows listing_rows parent_of occurrence_of
-letter-1 = refl
+data_type-1 = refl
 
 -- behind the other entries of the line, before the next line
 behind-line : comes_before (at (bt 161) (attribute 1 9)) (at (bt 1001) (line 1)) ≡ true

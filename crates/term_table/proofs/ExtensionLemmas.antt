@@ -8,7 +8,7 @@ use Rattle.std.proofs.lemmas.Option.{same_Some}
 use Rattle.std.proofs.lemmas.Bool.Decides.{nat_tests}
 use Rattle.term_table.specs.declared.groups.Group.{Group}
 use Rattle.term_table.specs.declared.groups.Group.TheVariants as groups
-use Rattle.term_table.specs.declared.terms.Letter.{Letter}
+use Rattle.term_table.specs.declared.terms.DataType.{DataType}
 use Rattle.term_table.specs.declared.terms.Term.{Term}
 use Rattle.term_table.specs.declared.terms.TermRow.{TermRow}
 use Rattle.term_table.specs.SemanticModel.{same_term, terms, is_extension, extension_line, extension_rows_from, extension_rows, listing_rows}
@@ -213,7 +213,7 @@ modelled-row_is term outer inner h =
 
 -- A term that a table adds has no type in the semantic model.
 none_found : (term : Term) → 1001 ≤ term.number → (rows : List TermRow) → list_all (λ (r : TermRow). nat_lt r.term.number 1001) rows ≡ true
-    → option_map (λ (r : TermRow). r.letter) (find (λ (r : TermRow). same_term r.term term) rows) ≡ None
+    → option_map (λ (r : TermRow). r.data_type) (find (λ (r : TermRow). same_term r.term term) rows) ≡ None
 none_found term l [] h = refl
 none_found term l (r ∷ rows) h =
     let w = both (nat_lt r.term.number 1001) _ h in
@@ -222,19 +222,19 @@ none_found term l (r ∷ rows) h =
     let rest = none_found term l rows w.1 in
     rw f rest
 
-pub no-type : (term : Term) → is_extension term ≡ true → option_map (λ (r : TermRow). r.letter) (find (λ (r : TermRow). same_term r.term term) terms) ≡ None
+pub no-type : (term : Term) → is_extension term ≡ true → option_map (λ (r : TermRow). r.data_type) (find (λ (r : TermRow). same_term r.term term) terms) ≡ None
 no-type term h =
     let x = (both (nat_le 1001 term.number) _ (both (term.part == 0) _ h).1).0 in
     none_found term (grind (arith, nat_tests, x)) terms small_numbers
 
 -- So where the semantic model has one, that is its type.
-pub one-type : (term : Term) (letter other : Letter) → HasType term letter →
-    option_map (λ (r : TermRow). r.letter) (find (λ (r : TermRow). same_term r.term term) terms) ≡ Some other → letter ≡ other
-one-type term letter other (modelled e) h = same_Some _ _ (sym e ∙ h)
-one-type term letter other (added e k) h = absurd (let z : None ≡ Some other = sym (no-type term e) ∙ h in cc)
+pub one-type : (term : Term) (data_type other : DataType) → HasType term data_type →
+    option_map (λ (r : TermRow). r.data_type) (find (λ (r : TermRow). same_term r.term term) terms) ≡ Some other → data_type ≡ other
+one-type term data_type other (modelled e) h = same_Some _ _ (sym e ∙ h)
+one-type term data_type other (added e k) h = absurd (let z : None ≡ Some other = sym (no-type term e) ∙ h in cc)
 
 -- The type of a term of the semantic model is that of the model.
-pub modelled-type : (term : Term) (letter : Letter) → HasType term letter → is_extension term ≡ false →
-    option_map (λ (r : TermRow). r.letter) (find (λ (r : TermRow). same_term r.term term) terms) ≡ Some letter
-modelled-type term letter (modelled e) h = e
-modelled-type term letter (added e k) h = absurd (false≢true (sym h ∙ e))
+pub modelled-type : (term : Term) (data_type : DataType) → HasType term data_type → is_extension term ≡ false →
+    option_map (λ (r : TermRow). r.data_type) (find (λ (r : TermRow). same_term r.term term) terms) ≡ Some data_type
+modelled-type term data_type (modelled e) h = e
+modelled-type term data_type (added e k) h = absurd (false≢true (sym h ∙ e))

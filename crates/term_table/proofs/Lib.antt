@@ -1,6 +1,6 @@
 pub mod TermLemmas
 pub mod GroupLemmas
-pub mod LetterLemmas
+pub mod DataTypeLemmas
 pub mod SeatLemmas
 pub mod RunLemmas
 pub mod ExtensionLemmas

@@ -11,7 +11,7 @@ use Rattle.std.proofs.lemmas.Bool.{false≢true}
 use Rattle.std.proofs.lemmas.Bool.Decides.{nat_tests}
 use Rattle.term_table.specs.declared.groups.Group.{Group}
 use Rattle.term_table.specs.declared.groups.Group.TheVariants as groups
-use Rattle.term_table.specs.declared.terms.Letter.TheVariants as letters
+use Rattle.term_table.specs.declared.terms.DataType.TheVariants as data_types
 use Rattle.term_table.specs.declared.terms.Mark.TheVariants as marks
 use Rattle.term_table.specs.declared.terms.Term.{Term}
 use Rattle.term_table.specs.declared.terms.TermRow.{TermRow}
@@ -87,7 +87,7 @@ pub record At (e : Seat) : Type 0 where
   pub row_is : row_of e.term e.context ≡ Some row
 
 any_line : TermRow
-any_line = record { term = record { number = 0; part = 0 }; group = groups.Root; letter = letters.T; mark = marks.Optional; list = None }
+any_line = record { term = record { number = 0; part = 0 }; group = groups.Root; data_type = data_types.T; mark = marks.Optional; list = None }
 
 at-row : (e : Seat) (row : ℕ) → row_of e.term e.context ≡ Some row → At e
 at-row e row h =

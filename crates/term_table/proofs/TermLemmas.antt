@@ -12,7 +12,7 @@ use Rattle.term_table.specs.declared.terms.Term.{Term}
 use Rattle.term_table.specs.declared.terms.TermRow.{TermRow}
 use Rattle.term_table.specs.declared.terms.TheConstants.{TERMS, FIRST_ROWS}
 use Rattle.term_table.specs.SemanticModel.{same_term, terms}
-use Rattle.term_table.specs.Rows.{is_row_in, letter_of}
+use Rattle.term_table.specs.Rows.{is_row_in, data_type_of}
 use Rattle.term_table.specs.Numbers.{first_of, row_from, letter_from}
 use Rattle.term_table.proofs.GroupLemmas.{both}
 
@@ -166,10 +166,10 @@ near_first term k row e h =
     let l = row_at FIRST_ROWS 0 terms k row rows_are e in
     subst (λ n. (first_of FIRST_ROWS n ≤ k) × (k < first_of FIRST_ROWS n + 3)) (numbered row.term term h) (omega (arith, l.0), omega (arith, l.1))
 
-pub letter_from-is : (term : Term) → letter_from TERMS (first_of FIRST_ROWS term.number) term ≡ letter_of term
+pub letter_from-is : (term : Term) → letter_from TERMS (first_of FIRST_ROWS term.number) term ≡ data_type_of term
 letter_from-is term =
     ap (λ rows. letter_from rows (first_of FIRST_ROWS term.number) term) table_is ∙
-    ap (option_map (λ (row : TermRow). row.letter)) (found-among (λ (row : TermRow). same_term row.term term) terms (first_of FIRST_ROWS term.number) 3
+    ap (option_map (λ (row : TermRow). row.data_type)) (found-among (λ (row : TermRow). same_term row.term term) terms (first_of FIRST_ROWS term.number) 3
     (near_first term))
 
 pub row_from-is : (term : Term) (outer inner : Option Group) → row_from TERMS (first_of FIRST_ROWS term.number) term outer inner ≡ position

@@ -2,7 +2,7 @@
 use Rattle.std.specs.Prelude.{ℕ, ◌+◌, ◌-◌, ◌*◌, Bool, true, false, List, Option, Some, None, find, option_map, position, slice_get, take, drop, unwrap_or}
 use Rattle.term_table.specs.declared.groups.Group.{Group}
 use Rattle.term_table.specs.declared.groups.Group.TheVariants as groups
-use Rattle.term_table.specs.declared.terms.Letter.{Letter}
+use Rattle.term_table.specs.declared.terms.DataType.{DataType}
 use Rattle.term_table.specs.declared.terms.Term.{Term}
 use Rattle.term_table.specs.declared.terms.TermRow.{TermRow}
 use Rattle.term_table.specs.SemanticModel.{same_term}
@@ -18,8 +18,8 @@ abbrev pub row_from : List TermRow → ℕ → Term → Option Group → Option 
 row_from rows first term outer inner = option_map (λ k. first + k) (position (is_row_in term outer inner) (take 3 (drop first rows)))
 
 -- the type of the term among the three from the first one on
-abbrev pub letter_from : List TermRow → ℕ → Term → Option Letter
-letter_from rows first term = option_map (λ (row : TermRow). row.letter) (find (λ (row : TermRow). same_term row.term term) (take 3 (drop first rows)))
+abbrev pub letter_from : List TermRow → ℕ → Term → Option DataType
+letter_from rows first term = option_map (λ (row : TermRow). row.data_type) (find (λ (row : TermRow). same_term row.term term) (take 3 (drop first rows)))
 
 -- the number of the row of a term that a table adds: first that in a line, and then that in the invoice itself
 abbrev pub extension_place : Bool → Bool → Option ℕ

@@ -2,8 +2,8 @@
 use Rattle.std.specs.Prelude.{◌≡◌, ℕ, Bool, true, false, ◌&&◌, Option, Some, find, position, slice_get, option_map, option_and_then}
 use Rattle.code_lists.specs.declared.names.List.{List as CodeList}
 use Rattle.term_table.specs.declared.groups.Group.{Group}
-use Rattle.term_table.specs.declared.terms.Letter.{Letter}
-use Rattle.term_table.specs.declared.terms.Letter.TheVariants as letters
+use Rattle.term_table.specs.declared.terms.DataType.{DataType}
+use Rattle.term_table.specs.declared.terms.DataType.TheVariants as data_types
 use Rattle.term_table.specs.declared.terms.Term.{Term}
 use Rattle.term_table.specs.declared.terms.TermRow.{TermRow}
 use Rattle.term_table.specs.declared.contexts.Context.{Context}
@@ -22,22 +22,22 @@ abbrev pub row_of : Term → Context → Option ℕ
 row_of term context = row_in term (slot_group context.outer) (slot_group context.inner)
 
 -- the type of a term, which is one wherever the term stands: none of what is no business term
-abbrev pub letter_of : Term → Option Letter
-letter_of term = option_map (λ (row : TermRow). row.letter) (find (λ (row : TermRow). same_term row.term term) terms)
+abbrev pub data_type_of : Term → Option DataType
+data_type_of term = option_map (λ (row : TermRow). row.data_type) (find (λ (row : TermRow). same_term row.term term) terms)
 
 -- the type of its value, and the list that it is from
-abbrev pub letter_in : Term → Option Group → Option Group → Option Letter
-letter_in term outer inner = option_map (λ (row : TermRow). row.letter) (option_and_then (slice_get terms) (row_in term outer inner))
+abbrev pub data_type_in : Term → Option Group → Option Group → Option DataType
+data_type_in term outer inner = option_map (λ (row : TermRow). row.data_type) (option_and_then (slice_get terms) (row_in term outer inner))
 
 abbrev pub list_in : Term → Option Group → Option Group → Option CodeList
 list_in term outer inner = option_and_then (λ (row : TermRow). row.list) (option_and_then (slice_get terms) (row_in term outer inner))
 
-abbrev pub is_base64 : Letter → Bool
-is_base64 letters.B = true
+abbrev pub is_base64 : DataType → Bool
+is_base64 data_types.B = true
 is_base64 _ = false
 
 -- The term has the type, wherever it stands: one of the semantic model has one type, and one that a table adds has any
 -- but base64.
-pub data HasType (term : Term) (letter : Letter) : Type 0 where
-  modelled : letter_of term ≡ Some letter → HasType term letter
-  added : is_extension term ≡ true → is_base64 letter ≡ false → HasType term letter
+pub data HasType (term : Term) (data_type : DataType) : Type 0 where
+  modelled : data_type_of term ≡ Some data_type → HasType term data_type
+  added : is_extension term ≡ true → is_base64 data_type ≡ false → HasType term data_type

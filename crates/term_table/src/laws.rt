@@ -4,7 +4,7 @@ ghost use Rattle.std.specs.Prelude.{◌≡◌, ℕ, List, Some, slice_get, filte
 ghost use Rattle.std.specs.Ordering.{nat_cmp};
 ghost use Rattle.std.specs.Cmp.Lexicographic.{slice_cmp};
 ghost use Rattle.term_table.specs.declared.groups.Group.{Group};
-ghost use Rattle.term_table.specs.declared.terms.Letter.{Letter};
+ghost use Rattle.term_table.specs.declared.terms.DataType.{DataType};
 ghost use Rattle.term_table.specs.declared.terms.Term.{Term};
 ghost use Rattle.term_table.specs.declared.terms.TermRow.{TermRow};
 ghost use Rattle.term_table.specs.declared.contexts.Context.{Context};
@@ -18,7 +18,7 @@ use crate::places::ListingPlace;
 
 /// A term has one type wherever it stands, so a value that was read by the letter of its row fits it.
 pub fn terms_have_one_type()
-    ensures { (k : ℕ) (row : TermRow) → slice_get terms k ≡ Some row → HasType row.term row.letter }
+    ensures { (k : ℕ) (row : TermRow) → slice_get terms k ≡ Some row → HasType row.term row.data_type }
 {}
 
 /// No two terms, and no two contexts, have one place.

@@ -19,6 +19,6 @@ pub use laws::{
 };
 pub use names::term_name;
 pub use places::{ListingPlace, first_row, place_at, place_of};
-pub use rows::{has_context, letter_in, letter_of, list_in, row_in, row_of};
+pub use rows::{data_type_in, data_type_of, has_context, list_in, row_in, row_of};
 pub use runs::{Run, Seated, run_in, run_near};
-pub use terms::{Letter, Mark, Term, TermRow, term_row, term_rows};
+pub use terms::{DataType, Mark, Term, TermRow, term_row, term_rows};

@@ -6,7 +6,7 @@ ghost use Rattle.term_table.specs.Rows as spec;
 
 use crate::contexts::Context;
 use crate::groups::Group;
-use crate::terms::{FIRST_ROWS, Letter, TERMS, Term, TermRow, term_row};
+use crate::terms::{DataType, FIRST_ROWS, TERMS, Term, TermRow, term_row};
 use code_lists::List;
 
 /// Whether both are the same group, or both are none.
@@ -119,27 +119,27 @@ pub fn row_of(term: Term, context: Context) -> Option<usize>
 }
 
 /// The type of a term in occurrences of these groups, where it stands in such.
-pub fn letter_in(term: Term, outer: Option<Group>, inner: Option<Group>) -> Option<Letter>
-    ensures { result ≡ spec.letter_in term outer inner }
+pub fn data_type_in(term: Term, outer: Option<Group>, inner: Option<Group>) -> Option<DataType>
+    ensures { result ≡ spec.data_type_in term outer inner }
 {
     let row = term_row(row_in(term, outer, inner)?)?;
-    Some(row.letter)
+    Some(row.data_type)
 }
 
 // The type of the first three rows' term that is this one.
-fn letter_from(rows: &[TermRow], first: usize, term: Term) -> Option<Letter>
+fn letter_from(rows: &[TermRow], first: usize, term: Term) -> Option<DataType>
     requires { first ≤ length rows.now }
     ensures { result ≡ numbers.letter_from rows.now first term }
 {
     let (_, behind) = rows.split_at(first);
     let row = behind.iter().take(3).find(|row| row.term.is_same(term))?;
-    Some(row.letter)
+    Some(row.data_type)
 }
 
 /// The type of a term, which is one wherever the term stands. None of what is no business term. It looks at three rows
 /// at most.
-pub fn letter_of(term: Term) -> Option<Letter>
-    ensures { result ≡ spec.letter_of term }
+pub fn data_type_of(term: Term) -> Option<DataType>
+    ensures { result ≡ spec.data_type_of term }
 {
     letter_from(&TERMS, first_of(&FIRST_ROWS, term.number), term)
 }

@@ -31,7 +31,7 @@ impl Term {
 
 /// The type of a term's value, by its initial.
 #[derive(Clone, Copy, PartialEq, Eq)]
-pub enum Letter {
+pub enum DataType {
     /// Text.
     T,
     /// Identifier, document reference.
@@ -68,7 +68,7 @@ pub struct TermRow {
     /// The group that it stands in.
     pub group: Group,
     /// The type of its value.
-    pub letter: Letter,
+    pub data_type: DataType,
     /// Whether it has to stand there.
     pub mark: Mark,
     /// The list from which a code comes.
@@ -76,26 +76,26 @@ pub struct TermRow {
 }
 
 macro_rules! row {
-    ($number:literal, $part:literal, $group:ident, $letter:ident, $mark:ident) => {
+    ($number:literal, $part:literal, $group:ident, $data_type:ident, $mark:ident) => {
         TermRow {
             term: Term {
                 number: $number,
                 part: $part,
             },
             group: Group::$group,
-            letter: Letter::$letter,
+            data_type: DataType::$data_type,
             mark: Mark::$mark,
             list: None,
         }
     };
-    ($number:literal, $part:literal, $group:ident, $letter:ident, $mark:ident, $list:ident) => {
+    ($number:literal, $part:literal, $group:ident, $data_type:ident, $mark:ident, $list:ident) => {
         TermRow {
             term: Term {
                 number: $number,
                 part: $part,
             },
             group: Group::$group,
-            letter: Letter::$letter,
+            data_type: DataType::$data_type,
             mark: Mark::$mark,
             list: Some(List::$list),
         }

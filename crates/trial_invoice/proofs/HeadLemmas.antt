@@ -6,7 +6,7 @@ use Rattle.std.proofs.lemmas.List.Elements.{All-nil, All-cons, All-append}
 use Rattle.inv_base.specs.Characters.{is_char, is_white_space}
 use Rattle.inv_decimal.specs.WrittenDay.{read_dashed_day, day_from}
 use Rattle.term_table.specs.declared.groups.Group.TheVariants as groups
-use Rattle.term_table.specs.declared.terms.Letter.TheVariants as letters
+use Rattle.term_table.specs.declared.terms.DataType.TheVariants as data_types
 use Rattle.term_table.specs.SemanticModel.{terms, extension_rows, listing_rows}
 use Rattle.term_table.specs.Groups.{parent_of, occurrence_of}
 use Rattle.term_table.specs.Places.{first_row}
@@ -34,43 +34,43 @@ all-fit (e ∷ es) h = All-cons FitsIts e es h.0 (all-fit es h.1)
 
 fits-1 : Fits (bt 1) (values.Identifier (codes "T"))
 unfolding value_of is_char is_white_space
-fits-1 = record { letter = letters.I; text = codes "T"; typed = t.type-1; read = refl }
+fits-1 = record { data_type = data_types.I; text = codes "T"; typed = t.type-1; read = refl }
 
 fits-2 : Fits (bt 2) (values.Date (record { year = 2024; month = 1; day = 1 }))
 unfolding value_of is_char is_white_space read_dashed_day day_from
-fits-2 = record { letter = letters.D; text = codes "2024-01-01"; typed = t.type-2; read = refl }
+fits-2 = record { data_type = data_types.D; text = codes "2024-01-01"; typed = t.type-2; read = refl }
 
 fits-3 : Fits (bt 3) (values.Code (codes "380"))
 unfolding value_of is_char is_white_space
-fits-3 = record { letter = letters.C; text = codes "380"; typed = t.type-3; read = refl }
+fits-3 = record { data_type = data_types.C; text = codes "380"; typed = t.type-3; read = refl }
 
 fits-5 : Fits (bt 5) (values.Code (codes "EUR"))
 unfolding value_of is_char is_white_space
-fits-5 = record { letter = letters.C; text = codes "EUR"; typed = t.type-5; read = refl }
+fits-5 = record { data_type = data_types.C; text = codes "EUR"; typed = t.type-5; read = refl }
 
 fits-24 : Fits (bt 24) (values.Identifier (codes "urn:cen.eu:en16931:2017"))
 unfolding value_of is_char is_white_space
-fits-24 = record { letter = letters.I; text = codes "urn:cen.eu:en16931:2017"; typed = t.type-24; read = refl }
+fits-24 = record { data_type = data_types.I; text = codes "urn:cen.eu:en16931:2017"; typed = t.type-24; read = refl }
 
 fits-27 : Fits (bt 27) (values.Text (codes "S"))
 unfolding value_of is_char is_white_space
-fits-27 = record { letter = letters.T; text = codes "S"; typed = t.type-27; read = refl }
+fits-27 = record { data_type = data_types.T; text = codes "S"; typed = t.type-27; read = refl }
 
 fits-40 : Fits (bt 40) (values.Code (codes "DE"))
 unfolding value_of is_char is_white_space
-fits-40 = record { letter = letters.C; text = codes "DE"; typed = t.type-40; read = refl }
+fits-40 = record { data_type = data_types.C; text = codes "DE"; typed = t.type-40; read = refl }
 
 fits-44 : Fits (bt 44) (values.Text (codes "B"))
 unfolding value_of is_char is_white_space
-fits-44 = record { letter = letters.T; text = codes "B"; typed = t.type-44; read = refl }
+fits-44 = record { data_type = data_types.T; text = codes "B"; typed = t.type-44; read = refl }
 
 fits-55 : Fits (bt 55) (values.Code (codes "FR"))
 unfolding value_of is_char is_white_space
-fits-55 = record { letter = letters.C; text = codes "FR"; typed = t.type-55; read = refl }
+fits-55 = record { data_type = data_types.C; text = codes "FR"; typed = t.type-55; read = refl }
 
 fits-118 : Fits (bt 118) (values.Code (codes "S"))
 unfolding value_of is_char is_white_space
-fits-118 = record { letter = letters.C; text = codes "S"; typed = t.type-118; read = refl }
+fits-118 = record { data_type = data_types.C; text = codes "S"; typed = t.type-118; read = refl }
 
 beginning-fits : AllFit beginning
 beginning-fits = (fits-1, (fits-2, (fits-3, (fits-5, tt))))

@@ -6,7 +6,7 @@ use Rattle.std.specs.List.{range_with_len}
 use Rattle.std.proofs.lemmas.Grind.{flat_map-append}
 use Rattle.inv_base.specs.Characters.{is_char, is_white_space}
 use Rattle.term_table.specs.declared.groups.Group.TheVariants as groups
-use Rattle.term_table.specs.declared.terms.Letter.TheVariants as letters
+use Rattle.term_table.specs.declared.terms.DataType.TheVariants as data_types
 use Rattle.term_table.specs.Places.{precedes}
 use Rattle.inv_terms.specs.declared.values.Value.TheVariants as values
 use Rattle.inv_terms.specs.declared.entries.Entry.{Entry}
@@ -23,11 +23,11 @@ use Rattle.trial_invoice.proofs.SumLemmas.{net-le, price-le, quantity-le, sum-le
 
 fits-130 : Fits (bt 130) (values.Code (codes "C62"))
 unfolding value_of is_char is_white_space
-fits-130 = record { letter = letters.C; text = codes "C62"; typed = t.type-130; read = refl }
+fits-130 = record { data_type = data_types.C; text = codes "C62"; typed = t.type-130; read = refl }
 
 fits-151 : Fits (bt 151) (standard_rated)
 unfolding value_of is_char is_white_space
-fits-151 = record { letter = letters.C; text = codes "S"; typed = t.type-151; read = refl }
+fits-151 = record { data_type = data_types.C; text = codes "S"; typed = t.type-151; read = refl }
 
 -- ---- a line more
 

@@ -5,7 +5,7 @@ use Rattle.std.specs.declared.cmp.Ordering.TheVariants.{Less, Equal}
 use Rattle.std.proofs.lemmas.Bool.Decides.{nat_tests}
 use Rattle.term_table.specs.declared.groups.Group.TheVariants as groups
 use Rattle.term_table.specs.declared.contexts.Seat.{Seat}
-use Rattle.term_table.specs.declared.terms.Letter.TheVariants as letters
+use Rattle.term_table.specs.declared.terms.DataType.TheVariants as data_types
 use Rattle.term_table.specs.declared.terms.Term.{Term}
 use Rattle.term_table.specs.SemanticModel.{terms, extension_rows, listing_rows}
 use Rattle.term_table.specs.Groups.{parent_of, occurrence_of}
@@ -82,106 +82,106 @@ next i row other = rw (cmp-next i) refl
 
 -- ---- the types of the terms
 
-pub type-1 : HasType (bt 1) letters.I
+pub type-1 : HasType (bt 1) data_types.I
 unfolding terms
 type-1 = modelled refl
 
-pub type-2 : HasType (bt 2) letters.D
+pub type-2 : HasType (bt 2) data_types.D
 unfolding terms
 type-2 = modelled refl
 
-pub type-3 : HasType (bt 3) letters.C
+pub type-3 : HasType (bt 3) data_types.C
 unfolding terms
 type-3 = modelled refl
 
-pub type-5 : HasType (bt 5) letters.C
+pub type-5 : HasType (bt 5) data_types.C
 unfolding terms
 type-5 = modelled refl
 
-pub type-24 : HasType (bt 24) letters.I
+pub type-24 : HasType (bt 24) data_types.I
 unfolding terms
 type-24 = modelled refl
 
-pub type-27 : HasType (bt 27) letters.T
+pub type-27 : HasType (bt 27) data_types.T
 unfolding terms
 type-27 = modelled refl
 
-pub type-40 : HasType (bt 40) letters.C
+pub type-40 : HasType (bt 40) data_types.C
 unfolding terms
 type-40 = modelled refl
 
-pub type-44 : HasType (bt 44) letters.T
+pub type-44 : HasType (bt 44) data_types.T
 unfolding terms
 type-44 = modelled refl
 
-pub type-55 : HasType (bt 55) letters.C
+pub type-55 : HasType (bt 55) data_types.C
 unfolding terms
 type-55 = modelled refl
 
-pub type-106 : HasType (bt 106) letters.A
+pub type-106 : HasType (bt 106) data_types.A
 unfolding terms
 type-106 = modelled refl
 
-pub type-109 : HasType (bt 109) letters.A
+pub type-109 : HasType (bt 109) data_types.A
 unfolding terms
 type-109 = modelled refl
 
-pub type-110 : HasType (bt 110) letters.A
+pub type-110 : HasType (bt 110) data_types.A
 unfolding terms
 type-110 = modelled refl
 
-pub type-112 : HasType (bt 112) letters.A
+pub type-112 : HasType (bt 112) data_types.A
 unfolding terms
 type-112 = modelled refl
 
-pub type-115 : HasType (bt 115) letters.A
+pub type-115 : HasType (bt 115) data_types.A
 unfolding terms
 type-115 = modelled refl
 
-pub type-116 : HasType (bt 116) letters.A
+pub type-116 : HasType (bt 116) data_types.A
 unfolding terms
 type-116 = modelled refl
 
-pub type-117 : HasType (bt 117) letters.A
+pub type-117 : HasType (bt 117) data_types.A
 unfolding terms
 type-117 = modelled refl
 
-pub type-118 : HasType (bt 118) letters.C
+pub type-118 : HasType (bt 118) data_types.C
 unfolding terms
 type-118 = modelled refl
 
-pub type-119 : HasType (bt 119) letters.P
+pub type-119 : HasType (bt 119) data_types.P
 unfolding terms
 type-119 = modelled refl
 
-pub type-126 : HasType (bt 126) letters.I
+pub type-126 : HasType (bt 126) data_types.I
 unfolding terms
 type-126 = modelled refl
 
-pub type-129 : HasType (bt 129) letters.Q
+pub type-129 : HasType (bt 129) data_types.Q
 unfolding terms
 type-129 = modelled refl
 
-pub type-130 : HasType (bt 130) letters.C
+pub type-130 : HasType (bt 130) data_types.C
 unfolding terms
 type-130 = modelled refl
 
-pub type-131 : HasType (bt 131) letters.A
+pub type-131 : HasType (bt 131) data_types.A
 unfolding terms
 type-131 = modelled refl
 
-pub type-146 : HasType (bt 146) letters.A
+pub type-146 : HasType (bt 146) data_types.A
 unfolding terms
 type-146 = modelled refl
 
-pub type-151 : HasType (bt 151) letters.C
+pub type-151 : HasType (bt 151) data_types.C
 unfolding terms
 type-151 = modelled refl
 
-pub type-152 : HasType (bt 152) letters.P
+pub type-152 : HasType (bt 152) data_types.P
 unfolding terms
 type-152 = modelled refl
 
-pub type-153 : HasType (bt 153) letters.T
+pub type-153 : HasType (bt 153) data_types.T
 unfolding terms
 type-153 = modelled refl

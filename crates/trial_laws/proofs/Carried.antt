@@ -15,8 +15,8 @@ use Rattle.term_table.specs.SemanticModel.{terms}
 use Rattle.inv_terms.specs.declared.entries.Entry.{Entry}
 use Rattle.bind_rows.specs.declared.names.Namespace.TheVariants as spaces
 use Rattle.bind_rows.specs.declared.rows.Row.{Row}
-use Rattle.bind_rows.specs.declared.tables.Which.{Which}
-use Rattle.bind_rows.specs.declared.tables.Which.TheVariants as which
+use Rattle.bind_rows.specs.declared.tables.DocumentType.{DocumentType}
+use Rattle.bind_rows.specs.declared.tables.DocumentType.TheVariants as document_type
 use Rattle.bind_rows.specs.Namespaces.{declarations_of}
 use Rattle.bind_table.specs.Lines.{plan_of}
 use Rattle.ubl_binding.specs.Tables.{invoice_listing, invoice_rows}
@@ -27,7 +27,7 @@ use Rattle.bind_meaning.specs.Tables.{rows_of}
 use Rattle.bind_meaning.specs.Trees.{document_of}
 use Rattle.bind_write.specs.Documents.{declarations_for, document_text, root_alone, node_count}
 use Rattle.bind_carrying.specs.declared.carrying.NotCarried.{NotCarried}
-use Rattle.bind_carrying.specs.Tables.{which_of, target}
+use Rattle.bind_carrying.specs.Tables.{document_type_of, target}
 use Rattle.bind_carrying.specs.Carrying.{fails, all_conditions, first_term, told, first_failing, is_unplaced, first_unplaced, entries_fail, is_too_large}
 use Rattle.bind_carrying.specs.Carrying.{answer, carrying}
 use Rattle.trial_invoice.specs.Generated.{head, line, trial_entries}
@@ -40,19 +40,19 @@ use Rattle.trial_laws.proofs.Known.{known, trial-known}
 -- ---- the conditions on entries
 
 -- The entry fails none of them.
-abbrev keeps : Which → List Entry → Entry → Bool
+abbrev keeps : DocumentType → List Entry → Entry → Bool
 keeps table es e = list_all (λ c. not (fails c table es e)) all_conditions
 
-head-keeps-invoice : (es : List Entry) (sum : ℕ) → list_all (keeps which.Invoice es) (head sum) ≡ true
+head-keeps-invoice : (es : List Entry) (sum : ℕ) → list_all (keeps document_type.Invoice es) (head sum) ≡ true
 head-keeps-invoice es sum = refl
 
-line-keeps-invoice : (es : List Entry) (i : ℕ) → list_all (keeps which.Invoice es) (line i) ≡ true
+line-keeps-invoice : (es : List Entry) (i : ℕ) → list_all (keeps document_type.Invoice es) (line i) ≡ true
 line-keeps-invoice es i = refl
 
-head-keeps-cii : (es : List Entry) (sum : ℕ) → list_all (keeps which.Cii es) (head sum) ≡ true
+head-keeps-cii : (es : List Entry) (sum : ℕ) → list_all (keeps document_type.Cii es) (head sum) ≡ true
 head-keeps-cii es sum = refl
 
-line-keeps-cii : (es : List Entry) (i : ℕ) → list_all (keeps which.Cii es) (line i) ≡ true
+line-keeps-cii : (es : List Entry) (i : ℕ) → list_all (keeps document_type.Cii es) (line i) ≡ true
 line-keeps-cii es i = refl
 
 all-both : (p q : Entry → Bool) (xs : List Entry) → list_all (λ (e : Entry). p e && q e) xs ≡ true → (list_all p xs ≡ true) × (list_all q xs ≡ true)
@@ -63,7 +63,8 @@ all-both p q (x ∷ xs) h =
     let later = all-both p q xs w.1 in
     (and-true (p x) (list_all p xs) now.0 later.0, and-true (q x) (list_all q xs) now.1 later.1)
 
-none-fails : (conditions : List _) (table : Which) (es : List Entry) → list_all (λ (e : Entry). list_all (λ c. not (fails c table es e)) conditions) es ≡ true →
+none-fails : (conditions : List _) (table : DocumentType) (es : List Entry) → list_all (λ (e : Entry). list_all (λ c. not (fails c table es e)) conditions) es
+    ≡ true →
     first_failing conditions table es ≡ None
 none-fails [] table es h = refl
 none-fails (condition ∷ conditions) table es h =
@@ -72,10 +73,11 @@ none-fails (condition ∷ conditions) table es h =
     none-fails conditions table es w.1
 
 -- the conditions of one table
-keep-all : (rows : List Row) (table : Which) → which_of rows ≡ table → (n : ℕ) → ((sum : ℕ) → list_all (keeps table (trial_entries n)) (head sum) ≡ true)
+keep-all : (rows : List Row) (table : DocumentType) → document_type_of rows ≡ table → (n : ℕ) → ((sum : ℕ)
+    → list_all (keeps table (trial_entries n)) (head sum) ≡ true)
     → ((i : ℕ) → list_all (keeps table (trial_entries n)) (line i) ≡ true) → entries_fail rows (trial_entries n) ≡ None
 keep-all rows table is n h k =
-    ap (λ (t : Which). first_failing all_conditions t (trial_entries n)) is ∙
+    ap (λ (t : DocumentType). first_failing all_conditions t (trial_entries n)) is ∙
     none-fails all_conditions table (trial_entries n) (all-entries (keeps table (trial_entries n)) h k n)
 
 -- ---- the ninth
@@ -157,11 +159,11 @@ carried rows es h k l = λ i. answer (h i) (k i) (l i)
 
 -- ---- the two tables
 
-invoice-is : which_of invoice_rows ≡ which.Invoice
+invoice-is : document_type_of invoice_rows ≡ document_type.Invoice
 unfolding invoice_listing invoice_rows
 invoice-is = refl
 
-cii-is : which_of cii_rows ≡ which.Cii
+cii-is : document_type_of cii_rows ≡ document_type.Cii
 unfolding cii_listing cii_rows
 cii-is = refl
 
@@ -203,7 +205,7 @@ cii-nodes = lit≤ tt
 
 pub invoice-carried : (n : ℕ) → n ≤ 10000 → carrying invoice_rows (trial_entries n) ≡ Ok tt
 invoice-carried n h =
-    carried invoice_rows (trial_entries n) (keep-all invoice_rows which.Invoice invoice-is n (head-keeps-invoice (trial_entries n))
+    carried invoice_rows (trial_entries n) (keep-all invoice_rows document_type.Invoice invoice-is n (head-keeps-invoice (trial_entries n))
     (line-keeps-invoice (trial_entries n)))
     (small invoice_rows (declarations_of spaces.UblInvoice)
     (record { declared = invoice-declared; few_bytes = invoice-bytes; short_tags = invoice-tags; few_nodes = invoice-nodes }) n h)
@@ -211,16 +213,16 @@ invoice-carried n h =
 
 pub cii-carried : (n : ℕ) → n ≤ 10000 → carrying cii_rows (trial_entries n) ≡ Ok tt
 cii-carried n h =
-    carried cii_rows (trial_entries n) (keep-all cii_rows which.Cii cii-is n (head-keeps-cii (trial_entries n)) (line-keeps-cii (trial_entries n)))
+    carried cii_rows (trial_entries n) (keep-all cii_rows document_type.Cii cii-is n (head-keeps-cii (trial_entries n)) (line-keeps-cii (trial_entries n)))
     (small cii_rows (declarations_of spaces.CiiInvoice)
     (record { declared = cii-declared; few_bytes = cii-bytes; short_tags = cii-tags; few_nodes = cii-nodes }) n h) (all-placed cii_rows n)
 
 -- ---- by syntax
 
-pub ubl-target : (n : ℕ) → target (trial_entries n) syntaxes.Ubl ≡ which.Invoice
+pub ubl-target : (n : ℕ) → target (trial_entries n) syntaxes.Ubl ≡ document_type.Invoice
 unfolding trial_entries
 ubl-target n = refl
 
 pub trial-carried : (syntax : Syntax) (n : ℕ) → n ≤ 10000 → carrying (rows_of (target (trial_entries n) syntax)) (trial_entries n) ≡ Ok tt
-trial-carried syntaxes.Ubl n h = ap (λ (t : Which). carrying (rows_of t) (trial_entries n)) (ubl-target n) ∙ invoice-carried n h
+trial-carried syntaxes.Ubl n h = ap (λ (t : DocumentType). carrying (rows_of t) (trial_entries n)) (ubl-target n) ∙ invoice-carried n h
 trial-carried syntaxes.Cii n h = cii-carried n h

@@ -253,7 +253,7 @@ form-short n h forms.Model c value short = longer (length (spelled value)) short
 form-short n h forms.PlainDate c value short = longer (length (plain_date value)) short.plain_is
 form-short n h forms.DueDateTypeCode c value short = image-short (spelled value) (longer (length (spelled value)) short.spelled_is)
 form-short n h forms.CodedNote c value short = note-short n h c (spelled value) short.spelled_is
-form-short n h (forms.Typed letter) c value short = longer (length (spelled value)) short.spelled_is
+form-short n h (forms.Typed data_type) c value short = longer (length (spelled value)) short.spelled_is
 form-short n h forms.TypedPlainDate c value short = longer (length (plain_date value)) short.plain_is
 
 -- ---- how often groups occur

@@ -15,8 +15,8 @@ use Rattle.inv_terms.specs.declared.values.Value.{Value}
 use Rattle.inv_terms.specs.declared.entries.Entry.{Entry}
 use Rattle.inv_terms.specs.Values.{spelled}
 use Rattle.inv_terms.specs.Listing.{value_in}
-use Rattle.bind_rows.specs.declared.tables.Which.{Which}
-use Rattle.bind_rows.specs.declared.tables.Which.TheVariants as which
+use Rattle.bind_rows.specs.declared.tables.DocumentType.{DocumentType}
+use Rattle.bind_rows.specs.declared.tables.DocumentType.TheVariants as document_type
 use Rattle.bind_table.specs.Lines.{Cell, Plan, nothing, a_line, plan_of}
 use Rattle.ubl_binding.specs.Tables.{invoice_rows}
 use Rattle.bind_meaning.specs.Tables.{rows_of}
@@ -220,12 +220,12 @@ found-in-document read count some few held =
 
 -- ---- what a trial finds
 
-pub tally-is : AreRead → (count : ℕ) → 1 ≤ count → count ≤ 10000 → holds_any (rows_of which.Invoice) (trial_entries count) ≡ true →
-    IsReadBack reading_limits (rows_of which.Invoice) (trial_entries count)
+pub tally-is : AreRead → (count : ℕ) → 1 ≤ count → count ≤ 10000 → holds_any (rows_of document_type.Invoice) (trial_entries count) ≡ true →
+    IsReadBack reading_limits (rows_of document_type.Invoice) (trial_entries count)
     → tally_of (trial_findings (ubl_text count)) ≡ record { failed = 0; reported = 1; errors = 0; minor = 0 }
 unfolding trial_findings nodes_in written
 tally-is read count some few held back =
-    ap (λ (t : Which). tally_of (found_in trial_rules (nodes_in (encode_utf8_all (document_text (rows_of t) (trial_entries count)))))) (ubl-target count)
+    ap (λ (t : DocumentType). tally_of (found_in trial_rules (nodes_in (encode_utf8_all (document_text (rows_of t) (trial_entries count)))))) (ubl-target count)
     ∙ (ap (λ answer. tally_of (found_in trial_rules (unless_refused answer))) back.is
     ∙ (ap (λ (nodes : List Node). tally_of (found_in trial_rules (Some nodes))) back.nodes
     ∙ (ap (λ rules. tally_of (found_in rules (Some (document_nodes (document_of invoice_rows (trial_entries count)))))) rules-ready

@@ -8,7 +8,7 @@ use Rattle.std.proofs.lemmas.Bool.{false≢true}
 use Rattle.inv_base.specs.Tree.{Name, Attribute, Forest, an_element}
 use Rattle.term_table.specs.declared.groups.Group.{Group}
 use Rattle.term_table.specs.declared.terms.Term.{Term}
-use Rattle.term_table.specs.declared.terms.Letter.{Letter}
+use Rattle.term_table.specs.declared.terms.DataType.{DataType}
 use Rattle.term_table.specs.declared.contexts.Slot.{Slot}
 use Rattle.term_table.specs.declared.contexts.Context.{Context}
 use Rattle.term_table.specs.Contexts.{root_context, slot_group}
@@ -26,7 +26,7 @@ use Rattle.bind_rows.specs.declared.rows.Content.{Content}
 use Rattle.bind_rows.specs.declared.rows.Content.TheVariants as contents
 use Rattle.bind_rows.specs.declared.rows.Written.{Written}
 use Rattle.bind_rows.specs.declared.rows.Written.TheVariants as written
-use Rattle.bind_rows.specs.Added.{is_typed, letter_of_form}
+use Rattle.bind_rows.specs.Added.{is_typed, data_type_of_form}
 use Rattle.bind_table.specs.Lines.{Plan, Cell, nothing, a_line, plan_of}
 use Rattle.bind_meaning.specs.Currencies.{currency_id}
 use Rattle.bind_meaning.specs.Values.{form_for}
@@ -65,20 +65,20 @@ stands_beside known written.IfIban kind = false
 stands_beside known written.IfNotIban kind = false
 stands_beside known written.IfScheme kind = false
 stands_beside known written.IfNoScheme kind = false
-stands_beside known (written.OrFiller filler) kind = known.stands kind filler.beside
+stands_beside known (written.OrPlaceholder placeholder) kind = known.stands kind placeholder.beside
 stands_beside known written.VatTotal kind = false
 stands_beside known written.AccountingVatTotal kind = false
 
-abbrev pub filler_length : Written → ℕ
-filler_length written.Always = 0
-filler_length written.Never = 0
-filler_length written.IfIban = 0
-filler_length written.IfNotIban = 0
-filler_length written.IfScheme = 0
-filler_length written.IfNoScheme = 0
-filler_length (written.OrFiller filler) = length filler.text
-filler_length written.VatTotal = 0
-filler_length written.AccountingVatTotal = 0
+abbrev pub placeholder_length : Written → ℕ
+placeholder_length written.Always = 0
+placeholder_length written.Never = 0
+placeholder_length written.IfIban = 0
+placeholder_length written.IfNotIban = 0
+placeholder_length written.IfScheme = 0
+placeholder_length written.IfNoScheme = 0
+placeholder_length (written.OrPlaceholder placeholder) = length placeholder.text
+placeholder_length written.VatTotal = 0
+placeholder_length written.AccountingVatTotal = 0
 
 abbrev pub may_write_term : Known → Row → Option Group → Term → Bool
 may_write_term known row kind term = either (known.stands (group_at row kind) term) (λ _. stands_beside known row.written (group_at row kind))
@@ -90,7 +90,7 @@ abbrev pub has_text : Known → Option Group → Row → Bool
 has_text known kind row = elim row.content [ (contents.Term term) ↦ may_write_term known row kind term | (contents.Constant text) ↦ true ]
 
 abbrev pub text_length : Known → Row → ℕ
-text_length known row = elim row.content [ (contents.Term term) ↦ known.long + filler_length row.written | (contents.Constant text) ↦ length text ]
+text_length known row = elim row.content [ (contents.Term term) ↦ known.long + placeholder_length row.written | (contents.Constant text) ↦ length text ]
 
 -- ---- which lines may be written
 
@@ -213,7 +213,7 @@ so-text false text t h = absurd (some-not-none t h)
 
 record IsRoomy (known : Known) (row : Row) (kind : Option Group) (term : Term) (text : List ℕ) : Type 0 where
   may : may_write_term known row kind term ≡ true
-  fits : length text ≤ known.long + filler_length row.written
+  fits : length text ≤ known.long + placeholder_length row.written
 
 first-part : (a b c : ℕ) → a ≤ b → a ≤ b + c
 first-part a b c h = omega arith
@@ -224,19 +224,19 @@ second-part a b c h = omega arith
 -- ---- what a row writes is known
 
 module _ (known : Known) (es : List Entry) (are : AreKnown known es) where
-  of-type-same : (letter : Letter) (value v : Value) → of_type letter value ≡ Some v → value ≡ v
-  of-type-same letter value v h = go (is_of_type letter value) h
+  of-type-same : (data_type : DataType) (value v : Value) → of_type data_type value ≡ Some v → value ≡ v
+  of-type-same data_type value v h = go (is_of_type data_type value) h
     where
       go : (b : Bool) → ◌≡◌ {A = Option Value} (elim b [ true ↦ Some value | false ↦ None ]) (Some v) → value ≡ v
       go true k = some-same value v k
       go false k = absurd (some-not-none v k)
 
   of-form-same : (form : Form) (value v : Value) → of_form form value ≡ Some v → value ≡ v
-  of-form-same form value v h = go (letter_of_form form) h
+  of-form-same form value v h = go (data_type_of_form form) h
     where
-      go : (o : Option Letter) → ◌≡◌ {A = Option Value} (elim o [ None ↦ Some value | Some letter ↦ of_type letter value ]) (Some v) → value ≡ v
+      go : (o : Option DataType) → ◌≡◌ {A = Option Value} (elim o [ None ↦ Some value | Some data_type ↦ of_type data_type value ]) (Some v) → value ≡ v
       go None k = some-same value v k
-      go (Some letter) k = of-type-same letter value v k
+      go (Some data_type) k = of-type-same data_type value v k
 
   and-then-some : (form : Form) (o : Option Value) (v : Value) → option_and_then (of_form form) o ≡ Some v → o ≡ Some v
   and-then-some form None v h = absurd (some-not-none v h)
@@ -265,7 +265,7 @@ module _ (known : Known) (es : List Entry) (are : AreKnown known es) where
   due-text written.IfNotIban term c text t h = (so-text (not (is_iban text)) text t h).1
   due-text written.IfScheme term c text t h = (so-text (is_some (value_in es (scheme_of term) c)) text t h).1
   due-text written.IfNoScheme term c text t h = (so-text (is_none (value_in es (scheme_of term) c)) text t h).1
-  due-text (written.OrFiller filler) term c text t h = some-same text t h
+  due-text (written.OrPlaceholder placeholder) term c text t h = some-same text t h
   due-text written.VatTotal term c text t h = some-same text t h
   due-text written.AccountingVatTotal term c text t h = some-same text t h
 
@@ -273,16 +273,16 @@ module _ (known : Known) (es : List Entry) (are : AreKnown known es) where
   value-stands c term h = let w = some-found (value_in es term c) h in are.terms c term w.0 w.1
 
   filled-text : (w : Written) (c : Context) (t : List ℕ) → filled w es c ≡ Some t → (stands_beside known w (slot_group c.outer) ≡ true) ×
-      (length t ≤ filler_length w)
+      (length t ≤ placeholder_length w)
   filled-text written.Always c t h = absurd (some-not-none t h)
   filled-text written.Never c t h = absurd (some-not-none t h)
   filled-text written.IfIban c t h = absurd (some-not-none t h)
   filled-text written.IfNotIban c t h = absurd (some-not-none t h)
   filled-text written.IfScheme c t h = absurd (some-not-none t h)
   filled-text written.IfNoScheme c t h = absurd (some-not-none t h)
-  filled-text (written.OrFiller filler) c t h =
-      let w = so-text (is_some (value_in es filler.beside c)) filler.text t h in
-      (value-stands c filler.beside w.0, subst (λ (x : List ℕ). length t ≤ length x) (sym w.1) (le_refl (length t)))
+  filled-text (written.OrPlaceholder placeholder) c t h =
+      let w = so-text (is_some (value_in es placeholder.beside c)) placeholder.text t h in
+      (value-stands c placeholder.beside w.0, subst (λ (x : List ℕ). length t ≤ length x) (sym w.1) (le_refl (length t)))
   filled-text written.VatTotal c t h = absurd (some-not-none t h)
   filled-text written.AccountingVatTotal c t h = absurd (some-not-none t h)
 
@@ -308,7 +308,7 @@ module _ (known : Known) (es : List Entry) (are : AreKnown known es) where
           record {
             may = either-right (known.stands (group_at row (slot_group slot)) term) (λ _. stands_beside known row.written (group_at row (slot_group slot)))
                 (ap (stands_beside known row.written) (sym (kind-is row slot)) ∙ w.0);
-            fits = second-part (length text) known.long (filler_length row.written) w.1;
+            fits = second-part (length text) known.long (placeholder_length row.written) w.1;
           }
       go (Some value) e k =
           let there = value-from row term (context_for row (in_slot slot)) value e in
@@ -317,7 +317,7 @@ module _ (known : Known) (es : List Entry) (are : AreKnown known es) where
           record {
             may = either-left (known.stands (group_at row (slot_group slot)) term) (λ _. stands_beside known row.written (group_at row (slot_group slot)))
                 (ap (λ (x : Option Group). known.stands x term) (sym (kind-is row slot)) ∙ are.terms (context_for row (in_slot slot)) term value there);
-            fits = first-part (length text) known.long (filler_length row.written)
+            fits = first-part (length text) known.long (placeholder_length row.written)
                 (subst (λ (x : List ℕ). length x ≤ known.long) same
                 (are.texts (form_for row.form term) (context_for row (in_slot slot)) (context_for row (in_slot slot)) term value there));
           }
@@ -346,7 +346,7 @@ module _ (known : Known) (es : List Entry) (are : AreKnown known es) where
           ◌≡◌ {A = Option (List ℕ)} (elim content [ (contents.Constant constant) ↦ Some constant | (contents.Term term) ↦ row_text row es (in_slot slot) ])
           (Some text)
           → (elim content [ (contents.Term term) ↦ may_write_term known row (slot_group slot) term | (contents.Constant text) ↦ true ] ≡ true)
-          × (length text ≤ elim content [ (contents.Term term) ↦ known.long + filler_length row.written | (contents.Constant constant) ↦ length constant ])
+          × (length text ≤ elim content [ (contents.Term term) ↦ known.long + placeholder_length row.written | (contents.Constant constant) ↦ length constant ])
       go (contents.Term term) e k = let w = term-roomy row slot term text (sym (row_is (contents.Term term) e) ∙ k) in (w.may, w.fits)
       go (contents.Constant constant) e k = (refl, subst (λ (x : List ℕ). length x ≤ length constant) (some-same constant text k) (le_refl (length constant)))
 

@@ -35,7 +35,7 @@ currencies =
     ◂ leaf "EndDate" (bt 74)
     ◂ leaf "DescriptionCode" (bt 8))
     ◂ holding "OrderReference"
-    (leaf "ID" (when (written.OrFiller (record { text = codes "NA"; beside = term 14 })) (bt 13))
+    (leaf "ID" (when (written.OrPlaceholder (record { text = codes "NA"; beside = term 14 })) (bt 13))
     ◂ leaf "SalesOrderID" (bt 14))
     ◂ each groups.PrecedingInvoice (holding "BillingReference"
     (holding "InvoiceDocumentReference"

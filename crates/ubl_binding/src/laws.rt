@@ -1,5 +1,5 @@
 ghost use Rattle.std.specs.Prelude.{◌≡◌, true, Ok};
-ghost use Rattle.bind_table.specs.Laid.{is_laid};
+ghost use Rattle.bind_table.specs.Laid.{is_writable};
 ghost use Rattle.bind_table.specs.WellFormed.{first_fault};
 ghost use Rattle.ubl_binding.specs.Tables.{invoice_rows, credit_note_rows};
 
@@ -9,8 +9,8 @@ pub fn invoice_is_well_formed()
 {}
 
 /// The table of an invoice is laid.
-pub fn invoice_is_laid()
-    ensures { is_laid invoice_rows ≡ true }
+pub fn invoice_is_writable()
+    ensures { is_writable invoice_rows ≡ true }
 {}
 
 /// The table of a credit note is well formed.
@@ -19,6 +19,6 @@ pub fn credit_note_is_well_formed()
 {}
 
 /// The table of a credit note is laid.
-pub fn credit_note_is_laid()
-    ensures { is_laid credit_note_rows ≡ true }
+pub fn credit_note_is_writable()
+    ensures { is_writable credit_note_rows ≡ true }
 {}

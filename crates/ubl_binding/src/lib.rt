@@ -6,6 +6,7 @@ mod laws;
 mod tables;
 
 pub use laws::{
-    credit_note_is_laid, credit_note_is_well_formed, invoice_is_laid, invoice_is_well_formed,
+    credit_note_is_well_formed, credit_note_is_writable, invoice_is_well_formed,
+    invoice_is_writable,
 };
 pub use tables::{credit_note, invoice};

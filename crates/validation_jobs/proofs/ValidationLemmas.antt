@@ -11,27 +11,27 @@ use Rattle.extension_files.specs.declared.terms.ExtTerm.{ExtTerm}
 use Rattle.node_arena.specs.Document.{Document}
 use Rattle.node_arena.specs.Moves.{tree_nodes}
 use Rattle.bind_rows.specs.declared.rows.Row.{Row}
-use Rattle.bind_rows.specs.declared.tables.Which.{Which}
+use Rattle.bind_rows.specs.declared.tables.DocumentType.{DocumentType}
 use Rattle.bind_meaning.specs.declared.fault.BindFault.{BindFault}
 use Rattle.bind_meaning.specs.declared.fault.BindKind.TheVariants as kinds
 use Rattle.bind_meaning.specs.Faults.{faults_in, passed_nodes}
 use Rattle.bind_run.specs.declared.tables.Tables.{Tables}
 use Rattle.bind_run.specs.Extensions.{rows_for}
-use Rattle.bind_run.specs.Reading.{AreTablesFor, Faulted, faults_by, faults_by_root, rows_in}
-use Rattle.bind_run.specs.Roots.{which_of}
+use Rattle.bind_run.specs.Reading.{AreTablesFor, ReadingReport, faults_by, faults_by_root, rows_in}
+use Rattle.bind_run.specs.Roots.{document_type_of}
 use Rattle.held_rules.specs.Texts.{Ready}
 use Rattle.validation_report.specs.Validating.{Validated, Report, report_of}
-use Rattle.job_course.specs.declared.status.Status.{Status}
-use Rattle.job_course.specs.declared.status.Status.TheVariants as statuses
-use Rattle.job_course.specs.Course.{Course, ends}
-use Rattle.job_course.specs.Outside.{IsAccepted, TakesOrFails}
-use Rattle.job_course.specs.Runs.{Runs, Continues, Fails}
-use Rattle.job_course.proofs.Ends.{memory_here, written_here}
-use Rattle.job_course.proofs.FileLemmas.{refused_here}
-use Rattle.invoice_jobs.specs.Sources.{Basis}
+use Rattle.job_protocol.specs.declared.status.Status.{Status}
+use Rattle.job_protocol.specs.declared.status.Status.TheVariants as statuses
+use Rattle.job_protocol.specs.Protocol.{Protocol, ends}
+use Rattle.job_protocol.specs.Outside.{IsAccepted, TakesOrFails}
+use Rattle.job_protocol.specs.Runs.{Runs, Continues, Fails}
+use Rattle.job_protocol.proofs.Ends.{memory_here, written_here}
+use Rattle.job_protocol.proofs.FileLemmas.{refused_here}
+use Rattle.invoice_jobs.specs.Sources.{ReadingProfile}
 use Rattle.invoice_jobs.specs.Invoices.{invoice_line, IsInvoiceRefusal}
 use Rattle.rule_texts.specs.Texts.{code_lists_text}
-use Rattle.validation_jobs.specs.Validation.{built_in_rules, built_in_lists, not_built_in, by_built_in, listed_course, validated, status_by, text_in, told_by}
+use Rattle.validation_jobs.specs.Validation.{built_in_rules, built_in_lists, not_built_in, by_built_in, listed_protocol, validated, status_by, text_in, told_by}
 use Rattle.validation_jobs.specs.Validation.{reported, by_rules, by_faults, judged_next, document_next, IsListed, IsListRefusal, IsUnlisted}
 
 -- ---- the built-in lists
@@ -51,88 +51,94 @@ lists_refused bytes (list_faults.BadCode key) status before after is fails refus
     inr ((list_faults.BadCode key, built_in_is bytes (Err (list_faults.BadCode key)) is (fails (λ e. cc))), refused.0, refused.1)
 
 built_in_goes_on : (lists : Lists) (shelf : ShelfView) (err err' : SinkView) → IsListed lists err err' →
-    Continues (listed_course None) lists shelf shelf err err'
+    Continues (listed_protocol None) lists shelf shelf err err'
 built_in_goes_on lists shelf err err' is = λ next shelf' out out' err'' status further.
-    subst (λ course. Runs course (record { shelf = shelf; out = out; err = err }) (record { shelf = shelf'; out = out'; err = err'' }) status)
+    subst (λ protocol. Runs protocol (record { shelf = shelf; out = out; err = err }) (record { shelf = shelf'; out = out'; err = err'' }) status)
     (sym (ap (by_built_in next) is.are))
     (subst (λ e. Runs (next lists) (record { shelf = shelf; out = out; err = e }) (record { shelf = shelf'; out = out'; err = err'' }) status) is.quiet further)
 
 built_in_fails : (status : Status) (shelf : ShelfView) (err err' : SinkView) → IsUnlisted status err err' →
-    Fails (listed_course None) status shelf shelf err err'
+    Fails (listed_protocol None) status shelf shelf err err'
 built_in_fails status shelf err err' (inl memory) = λ next out.
-    rw (memory.0, memory.1) (memory_here (listed_course None next) shelf out err)
+    rw (memory.0, memory.1) (memory_here (listed_protocol None next) shelf out err)
 built_in_fails status shelf err err' (inr refused) = λ next out.
     rw refused.1
-    (subst (λ course. Runs course (record { shelf = shelf; out = out; err = err }) (record { shelf = shelf; out = out; err = err' }) statuses.RulesRefused)
+    (subst (λ protocol. Runs protocol (record { shelf = shelf; out = out; err = err }) (record { shelf = shelf; out = out; err = err' }) statuses.RulesRefused)
     (sym (ap (by_built_in next) refused.0.1))
     (refused_here statuses.RulesRefused not_built_in.err shelf out err err' tt refused.2))
 
 pub built_in_if : (result : Result Lists Status) (shelf : ShelfView) (err err' : SinkView) → IfOk result (λ lists. IsListed lists err err')
-    → IfOk result (λ lists. Continues (listed_course None) lists shelf shelf err err')
+    → IfOk result (λ lists. Continues (listed_protocol None) lists shelf shelf err err')
 built_in_if (Ok lists) shelf err err' is = built_in_goes_on lists shelf err err' is
 built_in_if (Err status) shelf err err' is = tt
 
 pub built_in_if_not : (result : Result Lists Status) (shelf : ShelfView) (err err' : SinkView) → IfErr result (λ status. IsUnlisted status err err')
-    → IfErr result (λ status. Fails (listed_course None) status shelf shelf err err')
+    → IfErr result (λ status. Fails (listed_protocol None) status shelf shelf err err')
 built_in_if_not (Ok lists) shelf err err' is = tt
 built_in_if_not (Err status) shelf err err' is = built_in_fails status shelf err err' is
 
 -- ---- a document
 
 -- what is wrong with a document by the same rows is the same
-by_same_rows : (rows other : Which → List Row) → ((table : Which) → rows table ≡ other table) → (nodes : List Node) (lists : Lists) (table : Option Which)
+by_same_rows : (rows other : DocumentType → List Row) → ((table : DocumentType) → rows table ≡ other table)
+    → (nodes : List Node) (lists : Lists) (table : Option DocumentType)
     → faults_by_root rows nodes lists table ≡ faults_by_root other nodes lists table
 by_same_rows rows other same nodes lists None = refl
 by_same_rows rows other same nodes lists (Some table) =
-    ap (λ r. Ok (record { which = table; faults = faults_in nodes r lists; passed = passed_nodes nodes r })) (same table)
+    ap (λ r. Ok (record { document_type = table; faults = faults_in nodes r lists; passed = passed_nodes nodes r })) (same table)
 
 pub same_faults : (terms : List ExtTerm) (tables : Tables) → AreTablesFor terms tables → (nodes : List Node) (lists : Lists)
     → faults_by (rows_for terms) nodes lists ≡ faults_by (rows_in tables) nodes lists
-same_faults terms tables are nodes lists = sym (by_same_rows (rows_in tables) (rows_for terms) are nodes lists (which_of nodes))
+same_faults terms tables are nodes lists = sym (by_same_rows (rows_in tables) (rows_for terms) are nodes lists (document_type_of nodes))
 
-module _ (svrl : Bool) (file : List ℕ) (basis : Basis) (content : List ℕ) (doc : Document) (shelf : ShelfView) where
+module _ (svrl : Bool) (file : List ℕ) (reading_profile : ReadingProfile) (content : List ℕ) (doc : Document) (shelf : ShelfView) where
   -- what follows by what is wrong
-  abbrev follows : Result Faulted BindFault → Course
+  abbrev follows : Result ReadingReport BindFault → Protocol
   follows found = by_faults file doc (judged_next svrl content doc) found
 
-  pub document_faulted : (faulted : Faulted) (out out' err err' : SinkView) (status : Status)
-      → faults_by (rows_for basis.terms) (tree_nodes doc) basis.lists ≡ Ok faulted
-      → Runs (judged_next svrl content doc faulted) (record { shelf = shelf; out = out; err = err }) (record { shelf = shelf; out = out'; err = err' }) status
-      → Runs (document_next svrl file basis content doc) (record { shelf = shelf; out = out; err = err })
+  pub document_faulted : (reading_report : ReadingReport) (out out' err err' : SinkView) (status : Status)
+      → faults_by (rows_for reading_profile.terms) (tree_nodes doc) reading_profile.lists ≡ Ok reading_report
+      → Runs (judged_next svrl content doc reading_report) (record { shelf = shelf; out = out; err = err }) (record { shelf = shelf; out = out'; err = err' })
+          status
+      → Runs (document_next svrl file reading_profile content doc) (record { shelf = shelf; out = out; err = err })
       (record { shelf = shelf; out = out'; err = err' }) status
-  document_faulted faulted out out' err err' status is further =
-      subst (λ course. Runs course (record { shelf = shelf; out = out; err = err }) (record { shelf = shelf; out = out'; err = err' }) status)
+  document_faulted reading_report out out' err err' status is further =
+      subst (λ protocol. Runs protocol (record { shelf = shelf; out = out; err = err }) (record { shelf = shelf; out = out'; err = err' }) status)
       (sym (ap follows is)) further
 
   pub document_refused : (fault : BindFault) (out err err' : SinkView) (status : Status)
-      → (fault.kind ≢ kinds.Memory → faults_by (rows_for basis.terms) (tree_nodes doc) basis.lists ≡ Err fault) →
+      → (fault.kind ≢ kinds.Memory → faults_by (rows_for reading_profile.terms) (tree_nodes doc) reading_profile.lists ≡ Err fault) →
       IsInvoiceRefusal doc file fault status err err'
-      → Runs (document_next svrl file basis content doc) (record { shelf = shelf; out = out; err = err })
+      → Runs (document_next svrl file reading_profile content doc) (record { shelf = shelf; out = out; err = err })
       (record { shelf = shelf; out = out; err = err' }) status
   document_refused fault out err err' status fails (inl memory) =
-      rw (memory.1, memory.2) (memory_here (document_next svrl file basis content doc) shelf out err)
+      rw (memory.1, memory.2) (memory_here (document_next svrl file reading_profile content doc) shelf out err)
   document_refused fault out err err' status fails (inr told) =
       rw told.1
-      (subst (λ course. Runs course (record { shelf = shelf; out = out; err = err }) (record { shelf = shelf; out = out; err = err' }) statuses.DocumentRefused)
+      (subst (λ protocol. Runs protocol (record { shelf = shelf; out = out; err = err }) (record { shelf = shelf; out = out; err = err' })
+          statuses.DocumentRefused)
       (sym (ap follows (fails told.0)))
       (refused_here statuses.DocumentRefused (invoice_line file doc fault) shelf out err err' tt told.2))
 
 module _ (svrl : Bool) (content : List ℕ) (doc : Document) (shelf : ShelfView) where
   -- The rules can be had, or can't.
-  pub document_judged : (faulted : Faulted) (ready : Ready) (out out' err err' : SinkView) (status : Status) → built_in_rules faulted.which ≡ Some ready
-      → Runs (ends (reported svrl (validated content doc faulted ready))) (record { shelf = shelf; out = out; err = err })
+  pub document_judged : (reading_report : ReadingReport) (ready : Ready) (out out' err err' : SinkView) (status : Status)
+      → built_in_rules reading_report.document_type ≡ Some ready
+      → Runs (ends (reported svrl (validated content doc reading_report ready))) (record { shelf = shelf; out = out; err = err })
       (record { shelf = shelf; out = out'; err = err' }) status
-      → Runs (judged_next svrl content doc faulted) (record { shelf = shelf; out = out; err = err }) (record { shelf = shelf; out = out'; err = err' }) status
-  document_judged faulted ready out out' err err' status is further =
-      subst (λ course. Runs course (record { shelf = shelf; out = out; err = err }) (record { shelf = shelf; out = out'; err = err' }) status)
-      (sym (ap (by_rules (λ r. ends (reported svrl (validated content doc faulted r)))) is)) further
+      → Runs (judged_next svrl content doc reading_report) (record { shelf = shelf; out = out; err = err }) (record { shelf = shelf; out = out'; err = err' })
+          status
+  document_judged reading_report ready out out' err err' status is further =
+      subst (λ protocol. Runs protocol (record { shelf = shelf; out = out; err = err }) (record { shelf = shelf; out = out'; err = err' }) status)
+      (sym (ap (by_rules (λ r. ends (reported svrl (validated content doc reading_report r)))) is)) further
 
-  pub document_unjudged : (faulted : Faulted) (out err err' : SinkView) → built_in_rules faulted.which ≡ None → TakesOrFails not_built_in.err err err'
-      → Runs (judged_next svrl content doc faulted) (record { shelf = shelf; out = out; err = err })
+  pub document_unjudged : (reading_report : ReadingReport) (out err err' : SinkView) → built_in_rules reading_report.document_type ≡ None
+      → TakesOrFails not_built_in.err err err'
+      → Runs (judged_next svrl content doc reading_report) (record { shelf = shelf; out = out; err = err })
       (record { shelf = shelf; out = out; err = err' }) statuses.RulesRefused
-  document_unjudged faulted out err err' is takes =
-      subst (λ course. Runs course (record { shelf = shelf; out = out; err = err }) (record { shelf = shelf; out = out; err = err' }) statuses.RulesRefused)
-      (sym (ap (by_rules (λ r. ends (reported svrl (validated content doc faulted r)))) is))
+  document_unjudged reading_report out err err' is takes =
+      subst (λ protocol. Runs protocol (record { shelf = shelf; out = out; err = err }) (record { shelf = shelf; out = out; err = err' }) statuses.RulesRefused)
+      (sym (ap (by_rules (λ r. ends (reported svrl (validated content doc reading_report r)))) is))
       (refused_here statuses.RulesRefused not_built_in.err shelf out err err' tt takes)
 
 -- ---- a report

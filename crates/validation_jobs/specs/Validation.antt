@@ -9,32 +9,32 @@ use Rattle.code_lists.specs.CodeFiles.{Lists, file_lists}
 use Rattle.xml_profile.specs.Profile as profile
 use Rattle.node_arena.specs.Document.{Document}
 use Rattle.node_arena.specs.Moves.{tree_nodes}
-use Rattle.bind_rows.specs.declared.tables.Which.{Which}
-use Rattle.bind_rows.specs.declared.tables.Which.TheVariants as which
+use Rattle.bind_rows.specs.declared.tables.DocumentType.{DocumentType}
+use Rattle.bind_rows.specs.declared.tables.DocumentType.TheVariants as document_type
 use Rattle.bind_meaning.specs.declared.fault.BindFault.{BindFault}
 use Rattle.bind_run.specs.Extensions.{rows_for}
-use Rattle.bind_run.specs.Reading.{Faulted, faults_by}
-use Rattle.bind_run.specs.declared.faults.Faulted.{Faulted as FaultsFound}
+use Rattle.bind_run.specs.Reading.{ReadingReport, faults_by}
+use Rattle.bind_run.specs.declared.faults.ReadingReport.{ReadingReport as FaultsFound}
 use Rattle.rule_texts.specs.Texts.{ubl_text, cii_text, code_lists_text}
 use Rattle.held_rules.specs.Texts.{Ready, ready_in, found_by}
 use Rattle.validation_report.specs.Validating.{Validated, Report, report_of}
-use Rattle.job_course.specs.declared.status.Status.{Status}
-use Rattle.job_course.specs.declared.status.Status.TheVariants as statuses
-use Rattle.job_course.specs.Course.{Answer, Course, ends, refusal, by_result, lists_course, told_course}
-use Rattle.job_course.specs.Outside.{TakesOrFails}
-use Rattle.job_course.specs.Views.{document_read}
-use Rattle.invoice_jobs.specs.Sources.{Sources, Basis, with_terms}
+use Rattle.job_protocol.specs.declared.status.Status.{Status}
+use Rattle.job_protocol.specs.declared.status.Status.TheVariants as statuses
+use Rattle.job_protocol.specs.Protocol.{Answer, Protocol, ends, refusal, by_result, lists_protocol, told_protocol}
+use Rattle.job_protocol.specs.Outside.{TakesOrFails}
+use Rattle.job_protocol.specs.Views.{document_read}
+use Rattle.invoice_jobs.specs.Sources.{Sources, ReadingProfile, with_terms}
 use Rattle.invoice_jobs.specs.Invoices.{invoice_line}
 
 -- ---- what is built in
 
 -- the rule file for the documents of a table
-abbrev pub rules_text : Which → List ℕ
-rules_text which.Invoice = ubl_text
-rules_text which.CreditNote = ubl_text
-rules_text which.Cii = cii_text
+abbrev pub rules_text : DocumentType → List ℕ
+rules_text document_type.Invoice = ubl_text
+rules_text document_type.CreditNote = ubl_text
+rules_text document_type.Cii = cii_text
 
-unfoldable pub built_in_rules : Which → Option Ready
+unfoldable pub built_in_rules : DocumentType → Option Ready
 built_in_rules table = ready_in (rules_text table)
 
 unfoldable pub built_in_lists : Result Lists ListFault
@@ -47,27 +47,27 @@ not_built_in = refusal statuses.RulesRefused (codes "einv: the built-in rules ar
 -- ---- what a document is validated by
 
 -- the lists that are built in, and what follows by them
-abbrev pub by_built_in : (Lists → Course) → Result Lists ListFault → Course
+abbrev pub by_built_in : (Lists → Protocol) → Result Lists ListFault → Protocol
 by_built_in next found = by_result (λ fault. ends not_built_in) next found
 
 -- the lists of a file, or those that are built in
-abbrev pub listed_course : Option (List ℕ) → (Lists → Course) → Course
-listed_course None next = by_built_in next built_in_lists
-listed_course (Some file) next = lists_course file next
+abbrev pub listed_protocol : Option (List ℕ) → (Lists → Protocol) → Protocol
+listed_protocol None next = by_built_in next built_in_lists
+listed_protocol (Some file) next = lists_protocol file next
 
 -- the lists, and the terms that a user adds
-abbrev pub given_course : Sources → (Basis → Course) → Course
-given_course sources next = with_terms (listed_course sources.codes_file) sources.extension_file next
+abbrev pub given_protocol : Sources → (ReadingProfile → Protocol) → Protocol
+given_protocol sources next = with_terms (listed_protocol sources.codes_file) sources.extension_file next
 
 -- ---- what is found
 
 -- what validating a document comes to: its faults and the elements that were passed over, and what the rules find in it
-abbrev pub validated : List ℕ → Document → Faulted → Ready → Validated
-validated content document faulted ready = record {
+abbrev pub validated : List ℕ → Document → ReadingReport → Ready → Validated
+validated content document reading_report ready = record {
   content = content;
   document = document;
-  faults = faulted.faults;
-  passed = faulted.passed;
+  faults = reading_report.faults;
+  passed = reading_report.passed;
   lines = found_by ready (tree_nodes document);
 }
 
@@ -88,30 +88,30 @@ abbrev pub reported : Bool → Validated → Answer
 reported svrl v = told_by svrl (report_of v)
 
 -- what follows by the built-in rules
-abbrev pub by_rules : (Ready → Course) → Option Ready → Course
+abbrev pub by_rules : (Ready → Protocol) → Option Ready → Protocol
 by_rules next None = ends not_built_in
 by_rules next (Some ready) = next ready
 
 -- what is wrong with a document by the table of its root, and what follows by that; or why no table is its own
-abbrev pub by_faults : List ℕ → Document → (Faulted → Course) → Result Faulted BindFault → Course
+abbrev pub by_faults : List ℕ → Document → (ReadingReport → Protocol) → Result ReadingReport BindFault → Protocol
 by_faults file document next found = by_result (λ fault. ends (refusal statuses.DocumentRefused (invoice_line file document fault))) next found
 
 -- what follows by what is wrong: the rules of the table, and the report
-abbrev pub judged_next : Bool → List ℕ → Document → Faulted → Course
-judged_next svrl content document faulted =
-    by_rules (λ ready. ends (reported svrl (validated content document faulted ready))) (built_in_rules faulted.which)
+abbrev pub judged_next : Bool → List ℕ → Document → ReadingReport → Protocol
+judged_next svrl content document reading_report =
+    by_rules (λ ready. ends (reported svrl (validated content document reading_report ready))) (built_in_rules reading_report.document_type)
 
 -- what follows by a document and the bytes of its file
-abbrev pub document_next : Bool → List ℕ → Basis → List ℕ → Document → Course
-document_next svrl file basis content document =
-    by_faults file document (judged_next svrl content document) (faults_by (rows_for basis.terms) (tree_nodes document) basis.lists)
+abbrev pub document_next : Bool → List ℕ → ReadingProfile → List ℕ → Document → Protocol
+document_next svrl file reading_profile content document =
+    by_faults file document (judged_next svrl content document) (faults_by (rows_for reading_profile.terms) (tree_nodes document) reading_profile.lists)
 
-abbrev pub found_next : Bool → List ℕ → Basis → List ℕ → profile.Document → Course
-found_next svrl file basis content found = document_next svrl file basis content (document_read found)
+abbrev pub found_next : Bool → List ℕ → ReadingProfile → List ℕ → profile.Document → Protocol
+found_next svrl file reading_profile content found = document_next svrl file reading_profile content (document_read found)
 
 -- the files beside the document before it, as for the other jobs on an invoice
-abbrev pub validate_course : Bool → Sources → List ℕ → Course
-validate_course svrl sources file = given_course sources (λ basis. told_course file (found_next svrl file basis))
+abbrev pub validate_protocol : Bool → Sources → List ℕ → Protocol
+validate_protocol svrl sources file = given_protocol sources (λ reading_profile. told_protocol file (found_next svrl file reading_profile))
 
 -- ---- what the code has
 
@@ -132,5 +132,5 @@ IsUnlisted status before after =
     ⊎ (((fault : ListFault) × (built_in_lists ≡ Err fault)) × (status ≡ statuses.RulesRefused) × TakesOrFails not_built_in.err before after)
 
 -- what is wrong with a document, as the definitions have it
-abbrev pub faulted_of : FaultsFound → Faulted
-faulted_of found = record { which = found.which; faults = found.faults.items; passed = found.passed_over.items }
+abbrev pub reading_report_of : FaultsFound → ReadingReport
+reading_report_of found = record { document_type = found.document_type; faults = found.faults.items; passed = found.passed_over.items }

@@ -1,36 +1,39 @@
 //! What the program has built in: the rules of EN 16931 for the tables, and code lists.
 ghost use Rattle.std.specs.Prelude.{◌≡◌, IfOk, IfErr, option_map};
 ghost use Rattle.held_rules.specs.Texts.{seen_ready, AreReady};
-ghost use Rattle.job_course.specs.Runs.{Continues, Fails};
-ghost use Rattle.job_course.specs.Outside.{TakesOrFails};
-ghost use Rattle.job_course.specs.Views.{text_of};
-ghost use Rattle.job_course.specs.declared.status.Status.TheVariants as statuses;
-ghost use Rattle.invoice_jobs.specs.Sources.{basis_of, sources_of};
+ghost use Rattle.job_protocol.specs.Runs.{Continues, Fails};
+ghost use Rattle.job_protocol.specs.Outside.{TakesOrFails};
+ghost use Rattle.job_protocol.specs.Views.{text_of};
+ghost use Rattle.job_protocol.specs.declared.status.Status.TheVariants as statuses;
+ghost use Rattle.invoice_jobs.specs.Sources.{profile_of, sources_of};
 ghost use Rattle.bind_run.specs.Extensions.{AreGood};
 ghost use Rattle.bind_run.specs.Reading.{AreTablesFor};
 ghost use Rattle.validation_jobs.specs.Validation as spec;
 
-use bind_run::Which;
+use bind_run::DocumentType;
 use code_lists::{CodeLists, ListFault};
 use held_rules::{Ready, ready_rules};
 use inv_base::{Printer, Shelf, Sink};
-use invoice_jobs::{Basis, Extended, Sources, load_extended};
-use job_course::{Status, take_lists};
+use invoice_jobs::{Extended, ReadingProfile, Sources, load_extended};
+use job_protocol::{Status, take_lists};
 use rule_texts::{cii_rules, code_lists_text, ubl_rules};
 use std::alloc::{AllocError, Global};
 
 /// The rule file for the documents of a table.
-fn rules_text(table: Which) -> &'static str
+fn rules_text(table: DocumentType) -> &'static str
     ensures { result.now ≡ spec.rules_text table }
 {
     match table {
-        Which::Invoice | Which::CreditNote => ubl_rules(),
-        Which::Cii => cii_rules(),
+        DocumentType::Invoice | DocumentType::CreditNote => ubl_rules(),
+        DocumentType::Cii => cii_rules(),
     }
 }
 
 /// The rules for the documents of a table, with what is active by default.
-pub(crate) fn built_in_rules(alloc: Global, table: Which) -> Result<Option<Ready>, AllocError>
+pub(crate) fn built_in_rules(
+    alloc: Global,
+    table: DocumentType,
+) -> Result<Option<Ready>, AllocError>
     ensures rules { IfOk result (λ ready. option_map seen_ready ready ≡ spec.built_in_rules table) }
     ensures ready { IfOk result (λ ready. AreReady ready) }
 {
@@ -87,9 +90,9 @@ fn load_lists<S: Shelf, E: Sink>(
     shelf: &mut S,
     err: &mut E,
 ) -> Result<CodeLists, Status>
-    ensures goes_on { IfOk result (λ lists. Continues (spec.listed_course (option_map text_of codes_file.entry)) lists
+    ensures goes_on { IfOk result (λ lists. Continues (spec.listed_protocol (option_map text_of codes_file.entry)) lists
         (S.view shelf.old) (S.view shelf.new) (E.view err.old) (E.view err.new)) }
-    ensures fails { IfErr result (λ status. Fails (spec.listed_course (option_map text_of codes_file.entry)) status
+    ensures fails { IfErr result (λ status. Fails (spec.listed_protocol (option_map text_of codes_file.entry)) status
         (S.view shelf.old) (S.view shelf.new) (E.view err.old) (E.view err.new)) }
 {
     match codes_file {
@@ -105,12 +108,12 @@ pub(crate) fn load_given<S: Shelf, E: Sink>(
     sources: &Sources<'_>,
     shelf: &mut S,
     err: &mut E,
-) -> Result<Basis, Status>
-    ensures tables { IfOk result (λ basis. AreTablesFor basis.extension basis.tables) }
-    ensures good { IfOk result (λ basis. AreGood basis.extension) }
-    ensures goes_on { IfOk result (λ basis. Continues (spec.given_course (sources_of sources.now)) (basis_of basis)
+) -> Result<ReadingProfile, Status>
+    ensures tables { IfOk result (λ reading_profile. AreTablesFor reading_profile.extension reading_profile.tables) }
+    ensures good { IfOk result (λ reading_profile. AreGood reading_profile.extension) }
+    ensures goes_on { IfOk result (λ reading_profile. Continues (spec.given_protocol (sources_of sources.now)) (profile_of reading_profile)
         (S.view shelf.old) (S.view shelf.new) (E.view err.old) (E.view err.new)) }
-    ensures fails { IfErr result (λ status. Fails (spec.given_course (sources_of sources.now)) status
+    ensures fails { IfErr result (λ status. Fails (spec.given_protocol (sources_of sources.now)) status
         (S.view shelf.old) (S.view shelf.new) (E.view err.old) (E.view err.new)) }
 {
     let lists = match load_lists(alloc, sources.codes_file, shelf, err) {
@@ -118,7 +121,7 @@ pub(crate) fn load_given<S: Shelf, E: Sink>(
         Err(status) => return Err(status),
     };
     match load_extended(alloc, sources.extension_file, shelf, err) {
-        Ok(Extended { extension, tables }) => Ok(Basis {
+        Ok(Extended { extension, tables }) => Ok(ReadingProfile {
             lists,
             extension,
             tables,

@@ -6,19 +6,19 @@ ghost use Rattle.bind_run.specs.Reading.{AreTablesFor, IsWithin};
 ghost use Rattle.held_rules.specs.Texts.{seen_ready, IsReady};
 ghost use Rattle.line_places.specs.Places.{AreLinesOf};
 ghost use Rattle.inv_base.specs.Writing.{Writes};
-ghost use Rattle.job_course.specs.Runs.{Runs};
-ghost use Rattle.invoice_jobs.specs.Sources.{basis_of, sources_of};
-ghost use Rattle.job_course.specs.Course.{ends, told_course};
-ghost use Rattle.validation_jobs.specs.Validation.{status_by, text_in, told_by, reported, validated, judged_next, document_next, found_next, validate_course};
-ghost use Rattle.validation_jobs.specs.Validation.{faulted_of};
+ghost use Rattle.job_protocol.specs.Runs.{Runs};
+ghost use Rattle.invoice_jobs.specs.Sources.{profile_of, sources_of};
+ghost use Rattle.job_protocol.specs.Protocol.{ends, told_protocol};
+ghost use Rattle.validation_jobs.specs.Validation.{status_by, text_in, told_by, reported, validated, judged_next, document_next, found_next, validate_protocol};
+ghost use Rattle.validation_jobs.specs.Validation.{reading_report_of};
 
 use crate::built_in::{built_in_rules, load_given, tell_not_built_in};
-use bind_run::{Faulted, faults_of_document};
+use bind_run::{ReadingReport, faults_of_document};
 use bumpalo::Bump;
 use held_rules::Ready;
 use inv_base::{Shelf, Sink, Steps};
-use invoice_jobs::{Basis, Sources, refuse_invoice};
-use job_course::{Placed, Status, load_placed};
+use invoice_jobs::{ReadingProfile, Sources, refuse_invoice};
+use job_protocol::{Placed, Status, load_placed};
 use std::alloc::Global;
 use std::marker::Brand;
 use std::sync::ledger::{Blank, Ledger};
@@ -46,7 +46,7 @@ pub fn validate<'w, S: Shelf, O: Sink, E: Sink>(
     out: &mut O,
     err: &mut E,
 ) -> Status
-    ensures { Runs (validate_course svrl (sources_of sources.now) file.now)
+    ensures { Runs (validate_protocol svrl (sources_of sources.now) file.now)
         (record { shelf = S.view shelf.old; out = O.view out.old; err = E.view err.old })
         (record { shelf = S.view shelf.new; out = O.view out.new; err = E.view err.new }) result }
 {
@@ -70,17 +70,24 @@ fn validate_by<L: Ledger, S: Shelf, O: Sink, E: Sink>(
     requires name { ledger.name ≡ L.name }
     requires parts { ledger.parts ≡ L.parts }
     requires some { 0 < ledger.parts }
-    ensures { Runs (validate_course asked.now.svrl (sources_of asked.now.sources) asked.now.file.now)
+    ensures { Runs (validate_protocol asked.now.svrl (sources_of asked.now.sources) asked.now.file.now)
         (record { shelf = S.view shelf.old; out = O.view out.old; err = E.view err.old })
         (record { shelf = S.view shelf.new; out = O.view out.new; err = E.view err.new }) result }
 {
     let mut steps = Steps::<L>::new(ledger);
     match load_given(alloc, &asked.sources, shelf, err) {
-        Ok(basis) => {
+        Ok(reading_profile) => {
             let status = validate_file(
-                alloc, asked.svrl, &basis, asked.file, shelf, out, err, &mut steps,
+                alloc,
+                asked.svrl,
+                &reading_profile,
+                asked.file,
+                shelf,
+                out,
+                err,
+                &mut steps,
             );
-            drop(basis);
+            drop(reading_profile);
             status
         }
         Err(status) => status,
@@ -91,23 +98,32 @@ fn validate_by<L: Ledger, S: Shelf, O: Sink, E: Sink>(
 fn validate_file<L: Ledger, S: Shelf, O: Sink, E: Sink>(
     alloc: Global,
     svrl: bool,
-    basis: &Basis,
+    reading_profile: &ReadingProfile,
     file: &str,
     shelf: &mut S,
     out: &mut O,
     err: &mut E,
     steps: &mut Steps<L>,
 ) -> Status
-    requires tables { AreTablesFor basis.now.extension basis.now.tables }
-    requires good { AreGood basis.now.extension }
-    ensures { Runs (told_course file.now (found_next svrl file.now (basis_of basis.now)))
+    requires tables { AreTablesFor reading_profile.now.extension reading_profile.now.tables }
+    requires good { AreGood reading_profile.now.extension }
+    ensures { Runs (told_protocol file.now (found_next svrl file.now (profile_of reading_profile.now)))
         (record { shelf = S.view shelf.old; out = O.view out.old; err = E.view err.old })
         (record { shelf = S.view shelf.new; out = O.view out.new; err = E.view err.new }) result }
 {
     let bump = Bump::new(alloc);
     match load_placed(alloc, &bump, shelf, file, err) {
         Ok(placed) => {
-            let status = validate_document(alloc, svrl, basis, file, &placed, out, err, steps);
+            let status = validate_document(
+                alloc,
+                svrl,
+                reading_profile,
+                file,
+                &placed,
+                out,
+                err,
+                steps,
+            );
             drop(placed);
             status
         }
@@ -119,24 +135,29 @@ fn validate_file<L: Ledger, S: Shelf, O: Sink, E: Sink>(
 fn validate_document<L: Ledger, O: Sink, E: Sink>(
     alloc: Global,
     svrl: bool,
-    basis: &Basis,
+    reading_profile: &ReadingProfile,
     file: &str,
     placed: &Placed<'_>,
     out: &mut O,
     err: &mut E,
     steps: &mut Steps<L>,
 ) -> Status
-    requires tables { AreTablesFor basis.now.extension basis.now.tables }
-    requires good { AreGood basis.now.extension }
+    requires tables { AreTablesFor reading_profile.now.extension reading_profile.now.tables }
+    requires good { AreGood reading_profile.now.extension }
     ensures { (content : List ℕ) → AreLinesOf placed.now.lines content
-        → (shelf : ShelfView) → Runs (document_next svrl file.now (basis_of basis.now) content placed.now.doc)
+        → (shelf : ShelfView) → Runs (document_next svrl file.now (profile_of reading_profile.now) content placed.now.doc)
         (record { shelf = shelf; out = O.view out.old; err = E.view err.old })
         (record { shelf = shelf; out = O.view out.new; err = E.view err.new }) result }
 {
-    match faults_of_document(alloc, &placed.doc, &basis.tables, &basis.lists) {
-        Ok(faulted) => {
-            let status = judge_document(alloc, svrl, placed, &faulted, out, err, steps);
-            drop(faulted);
+    match faults_of_document(
+        alloc,
+        &placed.doc,
+        &reading_profile.tables,
+        &reading_profile.lists,
+    ) {
+        Ok(reading_report) => {
+            let status = judge_document(alloc, svrl, placed, &reading_report, out, err, steps);
+            drop(reading_report);
             status
         }
         Err(fault) => refuse_invoice(&placed.doc, file, &fault, err),
@@ -148,20 +169,20 @@ fn judge_document<L: Ledger, O: Sink, E: Sink>(
     alloc: Global,
     svrl: bool,
     placed: &Placed<'_>,
-    faulted: &Faulted,
+    reading_report: &ReadingReport,
     out: &mut O,
     err: &mut E,
     steps: &mut Steps<L>,
 ) -> Status
-    requires within { IsWithin (length placed.now.doc.nodes) faulted.now }
+    requires within { IsWithin (length placed.now.doc.nodes) reading_report.now }
     ensures { (content : List ℕ) → AreLinesOf placed.now.lines content
-        → (shelf : ShelfView) → Runs (judged_next svrl content placed.now.doc (faulted_of faulted.now))
+        → (shelf : ShelfView) → Runs (judged_next svrl content placed.now.doc (reading_report_of reading_report.now))
         (record { shelf = shelf; out = O.view out.old; err = E.view err.old })
         (record { shelf = shelf; out = O.view out.new; err = E.view err.new }) result }
 {
-    match built_in_rules(alloc, faulted.which) {
+    match built_in_rules(alloc, reading_report.document_type) {
         Ok(Some(ready)) => {
-            let status = report(alloc, svrl, placed, faulted, &ready, out, steps);
+            let status = report(alloc, svrl, placed, reading_report, &ready, out, steps);
             drop(ready);
             status
         }
@@ -178,15 +199,16 @@ fn report<L: Ledger, O: Sink>(
     alloc: Global,
     svrl: bool,
     placed: &Placed<'_>,
-    faulted: &Faulted,
+    reading_report: &ReadingReport,
     ready: &Ready,
     out: &mut O,
     steps: &mut Steps<L>,
 ) -> Status
-    requires within { IsWithin (length placed.now.doc.nodes) faulted.now }
+    requires within { IsWithin (length placed.now.doc.nodes) reading_report.now }
     requires ready { IsReady ready.now }
     ensures { (content : List ℕ) → AreLinesOf placed.now.lines content
-        → (shelf : ShelfView) (err : SinkView) → Runs (ends (reported svrl (validated content placed.now.doc (faulted_of faulted.now) (seen_ready ready.now))))
+        → (shelf : ShelfView) (err : SinkView) → Runs (ends (reported svrl (validated content placed.now.doc (reading_report_of reading_report.now)
+            (seen_ready ready.now))))
         (record { shelf = shelf; out = O.view out.old; err = err })
         (record { shelf = shelf; out = O.view out.new; err = err }) result }
 {
@@ -200,8 +222,8 @@ fn report<L: Ledger, O: Sink>(
         alloc,
         doc,
         lines,
-        &faulted.faults,
-        &faulted.passed_over,
+        &reading_report.faults,
+        &reading_report.passed_over,
         found,
     );
     match made {

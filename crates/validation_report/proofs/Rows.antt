@@ -2,7 +2,7 @@
 use Rattle.std.specs.Prelude.{ℕ, ◌≡◌, List, [], ◌∷◌, length, codes, false, true, Some, None, refl}
 use Rattle.std.specs.Fmt.{digits}
 use Rattle.inv_base.specs.declared.tree.Kind.TheVariants as tree
-use Rattle.inv_terms.specs.declared.lacks.Name.TheVariants as names
+use Rattle.inv_terms.specs.declared.violations.Name.TheVariants as names
 use Rattle.node_arena.specs.Document.{Document, document_node}
 use Rattle.bind_meaning.specs.declared.fault.BindFault.{BindFault}
 use Rattle.bind_meaning.specs.declared.fault.BindKind.TheVariants as kinds

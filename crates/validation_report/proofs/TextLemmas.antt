@@ -132,7 +132,7 @@ pub kept-report : (v : Validated) (reading : List Line) (faults : List Spot) (pa
     → ArePlaced v.document v.content v.faults v.passed v.lines faults passed findings
     → held (reading ∷ v.lines ∷ []) faults passed findings ≡ report_of v
 kept-report v reading faults passed findings e p =
-    (λ i. held (e i ∷ v.lines ∷ []) (p.faulted i) (p.passed_over i) (p.told i)) ∙ report-is v
+    (λ i. held (e i ∷ v.lines ∷ []) (p.reading_report i) (p.passed_over i) (p.told i)) ∙ report-is v
 
 -- ---- the parts of what is kept
 

@@ -110,6 +110,6 @@ pub record ArePlaced
     (document : Document) (content : List ℕ) (faults : List BindFault) (passed : List ℕ) (lines : List Line)
     (fault_places : List Spot) (passed_places : List Passed) (finding_places : List Spot)
     : Type 0 where
-  pub faulted : fault_places ≡ fault_spots document content 2 faults
+  pub reading_report : fault_places ≡ fault_spots document content 2 faults
   pub passed_over : passed_places ≡ map (passed_of document content) passed
   pub told : finding_places ≡ ordered (spots_of document content lines)

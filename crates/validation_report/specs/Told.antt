@@ -2,8 +2,8 @@
 use Rattle.std.specs.Prelude.{ℕ, nat_lt, true, false, List, [], ◌∷◌, map, codes, chars, Option, Some, None, unwrap_or}
 use Rattle.term_table.specs.Groups as groups
 use Rattle.term_table.specs.Names as terms
-use Rattle.inv_terms.specs.declared.lacks.Name.{Name}
-use Rattle.inv_terms.specs.declared.lacks.Name.TheVariants as names
+use Rattle.inv_terms.specs.declared.violations.Name.{Name}
+use Rattle.inv_terms.specs.declared.violations.Name.TheVariants as names
 use Rattle.inv_listing.specs.Listing.{term_text}
 use Rattle.node_arena.specs.Document.{Document}
 use Rattle.node_arena.specs.Moves.{tree_nodes}

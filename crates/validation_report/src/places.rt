@@ -41,7 +41,7 @@ impl Drop for Passed {
 
 /// A document, the ordinals of its nodes, and the starts of the lines of its file: what places are told by.
 #[derive(Clone, Copy)]
-pub(crate) struct Scene<'s, 'a> {
+pub(crate) struct ReportInput<'s, 'a> {
     pub(crate) doc: &'s Doc<'a>,
     pub(crate) ordinals: &'s Ordinals,
     pub(crate) lines: &'s LineStarts,
@@ -57,14 +57,14 @@ fn place_at(doc: &Doc<'_>, lines: &LineStarts, n: NodeId) -> LinePlace
 
 /// The place of a node that lines tell as judged. Those of a document's findings are its nodes; any other stands where the
 /// document does.
-fn place_judged(scene: &Scene<'_, '_>, n: NodeId) -> LinePlace
-    requires { AreOrdinals scene.now.doc.now scene.now.ordinals.now }
-    ensures { (content : List ℕ) → AreLinesOf scene.now.lines.now content → result ≡ place_in content (node_at scene.now.doc.now.nodes n).place }
+fn place_judged(input: &ReportInput<'_, '_>, n: NodeId) -> LinePlace
+    requires { AreOrdinals input.now.doc.now input.now.ordinals.now }
+    ensures { (content : List ℕ) → AreLinesOf input.now.lines.now content → result ≡ place_in content (node_at input.now.doc.now.nodes n).place }
 {
-    if (n.number() as usize) < scene.ordinals.len() {
-        place_at(scene.doc, scene.lines, n)
+    if (n.number() as usize) < input.ordinals.len() {
+        place_at(input.doc, input.lines, n)
     } else {
-        scene.lines.place(0)
+        input.lines.place(0)
     }
 }
 
@@ -92,16 +92,16 @@ pub(crate) fn push_fault_spots(
 
 /// The spots of the findings, in document order.
 pub(crate) fn push_ordered(
-    scene: &Scene<'_, '_>,
+    input: &ReportInput<'_, '_>,
     found: &[Line<'_>],
     spots: &mut Vec<Spot>,
 ) -> Result<(), AllocError>
-    requires ordinals { AreOrdinals scene.now.doc.now scene.now.ordinals.now }
+    requires ordinals { AreOrdinals input.now.doc.now input.now.ordinals.now }
     requires first { spots.old.items ≡ [] }
-    ensures { OnOk result ((content : List ℕ) → AreLinesOf scene.now.lines.now content
-        → spots.new.items ≡ ordered (spots_of scene.now.doc.now content found.now)) }
+    ensures { OnOk result ((content : List ℕ) → AreLinesOf input.now.lines.now content
+        → spots.new.items ≡ ordered (spots_of input.now.doc.now content found.now)) }
 {
-    push_spots(scene, found, spots)?;
+    push_spots(input, found, spots)?;
     sort_by_node(spots)
 }
 
@@ -114,18 +114,18 @@ fn sort_by_node(spots: &mut Vec<Spot>) -> Result<(), AllocError>
 
 /// The spots of the findings, in the order of their lines.
 fn push_spots(
-    scene: &Scene<'_, '_>,
+    input: &ReportInput<'_, '_>,
     found: &[Line<'_>],
     spots: &mut Vec<Spot>,
 ) -> Result<(), AllocError>
-    requires { AreOrdinals scene.now.doc.now scene.now.ordinals.now }
-    ensures { OnOk result ((content : List ℕ) → AreLinesOf scene.now.lines.now content
-        → spots.new.items ≡ spots.old.items ++ spots_of scene.now.doc.now content found.now) }
+    requires { AreOrdinals input.now.doc.now input.now.ordinals.now }
+    ensures { OnOk result ((content : List ℕ) → AreLinesOf input.now.lines.now content
+        → spots.new.items ≡ spots.old.items ++ spots_of input.now.doc.now content found.now) }
 {
-    let mut node = scene.doc.document();
+    let mut node = input.doc.document();
     'lines: for (k, line) in found.iter().enumerate() {
         node = node_behind(node, line);
-        push_spot(scene, line, node, k, spots)?;
+        push_spot(input, line, node, k, spots)?;
     }
     Ok(())
 }
@@ -146,19 +146,19 @@ fn node_behind(node: NodeId, line: &Line<'_>) -> NodeId
 
 /// The spot of a line that tells a finding.
 fn push_spot(
-    scene: &Scene<'_, '_>,
+    input: &ReportInput<'_, '_>,
     line: &Line<'_>,
     node: NodeId,
     number: usize,
     spots: &mut Vec<Spot>,
 ) -> Result<(), AllocError>
-    requires { AreOrdinals scene.now.doc.now scene.now.ordinals.now }
-    ensures { OnOk result ((content : List ℕ) → AreLinesOf scene.now.lines.now content
-        → spots.new.items ≡ spots.old.items ++ spots_at scene.now.doc.now content number node line.now) }
+    requires { AreOrdinals input.now.doc.now input.now.ordinals.now }
+    ensures { OnOk result ((content : List ℕ) → AreLinesOf input.now.lines.now content
+        → spots.new.items ≡ spots.old.items ++ spots_at input.now.doc.now content number node line.now) }
 {
     match line {
         Line::Found(_) => {
-            let place = place_judged(scene, node);
+            let place = place_judged(input, node);
             spots.push(Spot {
                 node,
                 line: number,
@@ -178,18 +178,18 @@ fn push_spot(
 /// The elements that were passed over.
 pub(crate) fn push_passed(
     alloc: Global,
-    scene: &Scene<'_, '_>,
+    input: &ReportInput<'_, '_>,
     nodes: &[NodeId],
     passed: &mut Vec<Passed>,
 ) -> Result<(), AllocError>
-    requires within { All (λ (n : ℕ). n < length scene.now.doc.now.nodes) nodes.now }
-    requires ordinals { AreOrdinals scene.now.doc.now scene.now.ordinals.now }
-    ensures { OnOk result ((content : List ℕ) → AreLinesOf scene.now.lines.now content
-        → passed.new.items ≡ passed.old.items ++ map (passed_of scene.now.doc.now content) nodes.now) }
+    requires within { All (λ (n : ℕ). n < length input.now.doc.now.nodes) nodes.now }
+    requires ordinals { AreOrdinals input.now.doc.now input.now.ordinals.now }
+    ensures { OnOk result ((content : List ℕ) → AreLinesOf input.now.lines.now content
+        → passed.new.items ≡ passed.old.items ++ map (passed_of input.now.doc.now content) nodes.now) }
 {
     'nodes: for n in nodes {
-        let location = location_of(alloc, scene.doc, scene.ordinals, *n)?;
-        let place = place_at(scene.doc, scene.lines, *n);
+        let location = location_of(alloc, input.doc, input.ordinals, *n)?;
+        let place = place_at(input.doc, input.lines, *n);
         passed.push(Passed { location, place })?;
     }
     Ok(())

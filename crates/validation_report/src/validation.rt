@@ -12,7 +12,7 @@ ghost use Rattle.validation_report.specs.Told.{reading_lines};
 ghost use Rattle.validation_report.specs.Held.{ArePlaced, held, held_plain, reading_in, rules_in};
 ghost use Rattle.validation_report.specs.Validating.{report_of, counts_against};
 
-use crate::places::{Passed, Scene, Spot, push_fault_spots, push_ordered, push_passed};
+use crate::places::{Passed, ReportInput, Spot, push_fault_spots, push_ordered, push_passed};
 use crate::printing::{FaultWord, OutcomeWord, print_all_counts, print_all_passed, print_spots};
 use crate::reading::reading_of;
 use bind_meaning::BindFault;
@@ -210,12 +210,12 @@ fn prepared_in<'r, 's>(
         ready.spots.findings.items) }
 {
     let ordinals = Ordinals::new(alloc, doc)?;
-    let scene = Scene {
+    let input = ReportInput {
         doc,
         ordinals: &ordinals,
         lines,
     };
-    let ready = prepared_by(alloc, &scene, told);
+    let ready = prepared_by(alloc, &input, told);
     drop(ordinals);
     ready
 }
@@ -223,19 +223,19 @@ fn prepared_in<'r, 's>(
 /// The same by the ordinals of the document's nodes.
 fn prepared_by<'r>(
     alloc: Global,
-    scene: &Scene<'_, '_>,
+    input: &ReportInput<'_, '_>,
     told: &Told<'_, '_, '_>,
 ) -> Result<Ready<'r>, AllocError>
-    requires faults { All (λ (fault : BindFault). fault.node < length scene.now.doc.now.nodes) told.now.faults.now }
-    requires passed { All (λ (n : ℕ). n < length scene.now.doc.now.nodes) told.now.passed.now }
-    requires ordinals { AreOrdinals scene.now.doc.now scene.now.ordinals.now }
-    ensures reading { IfOk result (λ ready. ready.reading ≡ reading_lines scene.now.doc.now told.now.faults.now) }
-    ensures placed { IfOk result (λ ready. (content : List ℕ) → AreLinesOf scene.now.lines.now content
-        → ArePlaced scene.now.doc.now content told.now.faults.now told.now.passed.now told.now.found.now ready.spots.faults.items ready.spots.passed.items
+    requires faults { All (λ (fault : BindFault). fault.node < length input.now.doc.now.nodes) told.now.faults.now }
+    requires passed { All (λ (n : ℕ). n < length input.now.doc.now.nodes) told.now.passed.now }
+    requires ordinals { AreOrdinals input.now.doc.now input.now.ordinals.now }
+    ensures reading { IfOk result (λ ready. ready.reading ≡ reading_lines input.now.doc.now told.now.faults.now) }
+    ensures placed { IfOk result (λ ready. (content : List ℕ) → AreLinesOf input.now.lines.now content
+        → ArePlaced input.now.doc.now content told.now.faults.now told.now.passed.now told.now.found.now ready.spots.faults.items ready.spots.passed.items
         ready.spots.findings.items) }
 {
-    let reading = reading_of(alloc, scene.doc, scene.ordinals, told.faults)?;
-    match spots_of(alloc, scene, told) {
+    let reading = reading_of(alloc, input.doc, input.ordinals, told.faults)?;
+    match spots_of(alloc, input, told) {
         Ok(spots) => Ok(Ready { reading, spots }),
         Err(fault) => {
             drop(reading);
@@ -247,14 +247,14 @@ fn prepared_by<'r>(
 /// Where stands what is told.
 fn spots_of(
     alloc: Global,
-    scene: &Scene<'_, '_>,
+    input: &ReportInput<'_, '_>,
     told: &Told<'_, '_, '_>,
 ) -> Result<Spots, AllocError>
-    requires faults { All (λ (fault : BindFault). fault.node < length scene.now.doc.now.nodes) told.now.faults.now }
-    requires passed { All (λ (n : ℕ). n < length scene.now.doc.now.nodes) told.now.passed.now }
-    requires ordinals { AreOrdinals scene.now.doc.now scene.now.ordinals.now }
-    ensures { IfOk result (λ spots. (content : List ℕ) → AreLinesOf scene.now.lines.now content
-        → ArePlaced scene.now.doc.now content told.now.faults.now told.now.passed.now told.now.found.now spots.faults.items
+    requires faults { All (λ (fault : BindFault). fault.node < length input.now.doc.now.nodes) told.now.faults.now }
+    requires passed { All (λ (n : ℕ). n < length input.now.doc.now.nodes) told.now.passed.now }
+    requires ordinals { AreOrdinals input.now.doc.now input.now.ordinals.now }
+    ensures { IfOk result (λ spots. (content : List ℕ) → AreLinesOf input.now.lines.now content
+        → ArePlaced input.now.doc.now content told.now.faults.now told.now.passed.now told.now.found.now spots.faults.items
         spots.passed.items spots.findings.items) }
 {
     let mut spots = Spots {
@@ -262,7 +262,7 @@ fn spots_of(
         passed: Vec::new(alloc),
         findings: Vec::new(alloc),
     };
-    match push_spots(alloc, scene, told, &mut spots) {
+    match push_spots(alloc, input, told, &mut spots) {
         Ok(()) => Ok(spots),
         Err(fault) => {
             drop(spots);
@@ -274,23 +274,23 @@ fn spots_of(
 /// Keeps where all stands that is told.
 fn push_spots(
     alloc: Global,
-    scene: &Scene<'_, '_>,
+    input: &ReportInput<'_, '_>,
     told: &Told<'_, '_, '_>,
     spots: &mut Spots,
 ) -> Result<(), AllocError>
-    requires faults { All (λ (fault : BindFault). fault.node < length scene.now.doc.now.nodes) told.now.faults.now }
-    requires passed { All (λ (n : ℕ). n < length scene.now.doc.now.nodes) told.now.passed.now }
-    requires ordinals { AreOrdinals scene.now.doc.now scene.now.ordinals.now }
+    requires faults { All (λ (fault : BindFault). fault.node < length input.now.doc.now.nodes) told.now.faults.now }
+    requires passed { All (λ (n : ℕ). n < length input.now.doc.now.nodes) told.now.passed.now }
+    requires ordinals { AreOrdinals input.now.doc.now input.now.ordinals.now }
     requires no_faults { spots.old.faults.items ≡ [] }
     requires no_passed { spots.old.passed.items ≡ [] }
     requires no_findings { spots.old.findings.items ≡ [] }
-    ensures { OnOk result ((content : List ℕ) → AreLinesOf scene.now.lines.now content
-        → ArePlaced scene.now.doc.now content told.now.faults.now told.now.passed.now told.now.found.now spots.new.faults.items spots.new.passed.items
+    ensures { OnOk result ((content : List ℕ) → AreLinesOf input.now.lines.now content
+        → ArePlaced input.now.doc.now content told.now.faults.now told.now.passed.now told.now.found.now spots.new.faults.items spots.new.passed.items
         spots.new.findings.items) }
 {
-    push_fault_spots(scene.doc, scene.lines, told.faults, &mut spots.faults)?;
-    push_passed(alloc, scene, told.passed, &mut spots.passed)?;
-    push_ordered(scene, told.found, &mut spots.findings)
+    push_fault_spots(input.doc, input.lines, told.faults, &mut spots.faults)?;
+    push_passed(alloc, input, told.passed, &mut spots.passed)?;
+    push_ordered(input, told.found, &mut spots.findings)
 }
 
 /// Whether the reading or the rules found something that counts against the document.

@@ -11,14 +11,14 @@ use Rattle.term_table.specs.Contexts.{root_context}
 use Rattle.inv_terms.specs.declared.entries.Entry.{Entry}
 use Rattle.bind_rows.specs.declared.rows.Row.{Row}
 use Rattle.bind_table.specs.Lines.{plan_of}
-use Rattle.bind_rows.specs.declared.tables.Which.{Which}
+use Rattle.bind_rows.specs.declared.tables.DocumentType.{DocumentType}
 use Rattle.bind_meaning.specs.Terms.{terms_of}
 use Rattle.bind_meaning.specs.Tables.{rows_of}
 use Rattle.bind_meaning.specs.Trees.{holds, document_of, written_lines}
 use Rattle.bind_write.specs.Documents.{declarations_for, document_text, node_count}
 use Rattle.bind_carrying.specs.declared.carrying.NotCarried.{NotCarried}
 use Rattle.bind_carrying.specs.Carrying.{is_too_large, first_unplaced, entries_fail, answer, carrying}
-use Rattle.bind_run.specs.Roots.{which_named, which_of}
+use Rattle.bind_run.specs.Roots.{document_type_named, document_type_of}
 use Rattle.bind_run.specs.Reading.{by_root, invoice_of}
 use Rattle.written_laws.specs.Readable.{reading_limits, is_one_root}
 use Rattle.written_laws.specs.Reading.{IsSmall, IsReadBack, IsReadByTable}
@@ -51,18 +51,19 @@ carried rows es h = go (entries_fail rows es) (is_too_large rows es) (first_unpl
 -- ---- the root
 
 pub root-is : (rows : List Row) (es : List Entry) → is_one_root (plan_of rows) ≡ true → holds es (plan_of rows) root_context ≡ true →
-    which_of (document_nodes (document_of rows es)) ≡ root_table rows
+    document_type_of (document_nodes (document_of rows es)) ≡ root_table rows
 unfolding document_of
 root-is rows es h there =
     let r = one-root (plan_of rows) h in
     let e = ap (λ q. written_lines es q false root_context) r.is ∙
     root-written es r.step r.cells r.inside r.once (subst (λ q. holds es q root_context ≡ true) r.is there) in
-    ap (λ (f : Forest). which_of (document_nodes f)) e ∙ ap (λ q. option_and_then which_named (root_name q)) (sym r.is)
+    ap (λ (f : Forest). document_type_of (document_nodes f)) e ∙ ap (λ q. option_and_then document_type_named (root_name q)) (sym r.is)
 
-pub by-table : (table : Which) (nodes : List Node) (lists : Lists) → which_of nodes ≡ Some table → invoice_of nodes lists ≡ terms_of nodes (rows_of table) lists
+pub by-table : (table : DocumentType) (nodes : List Node) (lists : Lists) → document_type_of nodes ≡ Some table → invoice_of nodes lists
+    ≡ terms_of nodes (rows_of table) lists
 by-table table nodes lists e = ap (by_root rows_of nodes lists) e
 
-pub read-by-table : (table : Which) (es : List Entry) (lists : Lists) → which_of (document_nodes (document_of (rows_of table) es)) ≡ Some table →
+pub read-by-table : (table : DocumentType) (es : List Entry) (lists : Lists) → document_type_of (document_nodes (document_of (rows_of table) es)) ≡ Some table →
     IsReadBack reading_limits (rows_of table) es → IsReadByTable table es lists
 read-by-table table es lists e back =
     record {

@@ -23,7 +23,7 @@ use Rattle.bind_meaning.specs.Currencies.{currency_id}
 use Rattle.bind_meaning.specs.Writing.{row_text}
 use Rattle.bind_meaning.specs.Trees.{shows_currency, currency_term, attribute, currency_attribute, currency_of_cell, is_at_element, constant_or_text}
 use Rattle.bind_meaning.specs.Trees.{attribute_of_cell, attributes, text_of_cell, element_text}
-use Rattle.written_laws.specs.Readable.{local_of, locals, unspaced, constant_of, filler_of, has_chars}
+use Rattle.written_laws.specs.Readable.{local_of, locals, unspaced, constant_of, placeholder_of, has_chars}
 use Rattle.written_laws.proofs.ListLemmas.{both, and-true, neither, all-append, one-longer, no-longer, Within, within-more}
 use Rattle.written_laws.proofs.ValueLemmas.{IsChars, AreChars, ValueChars, TextChars, row-chars, currency-chars}
 
@@ -89,8 +89,8 @@ module _ (es : List Entry) (chars : AreChars es) (s : Step) (c : Context) where
   cell-attribute : (cell : Cell) → has_chars cell ≡ true → Has (attribute_of_cell es c cell) (local_of cell)
   cell-attribute cell h = go cell.row.leaf
     where
-      w : IsChars (constant_of cell.row.content) × IsChars (filler_of cell.row.written)
-      w = both (list_all is_char (constant_of cell.row.content)) (list_all is_char (filler_of cell.row.written)) h
+      w : IsChars (constant_of cell.row.content) × IsChars (placeholder_of cell.row.written)
+      w = both (list_all is_char (constant_of cell.row.content)) (list_all is_char (placeholder_of cell.row.written)) h
 
       by-text : (local : List ℕ) (o : Option (List ℕ)) → TextChars o → Has (elim o [ None ↦ [] | Some text ↦ attribute local text ∷ [] ]) (local ∷ [])
       by-text local None k = has_not local has_none
@@ -161,8 +161,8 @@ module _ (es : List Entry) (chars : AreChars es) (s : Step) (c : Context) where
   cell-text : (cell : Cell) → has_chars cell ≡ true → IsChars (text_of_cell es c cell)
   cell-text cell h = go (is_at_element cell)
     where
-      w : IsChars (constant_of cell.row.content) × IsChars (filler_of cell.row.written)
-      w = both (list_all is_char (constant_of cell.row.content)) (list_all is_char (filler_of cell.row.written)) h
+      w : IsChars (constant_of cell.row.content) × IsChars (placeholder_of cell.row.written)
+      w = both (list_all is_char (constant_of cell.row.content)) (list_all is_char (placeholder_of cell.row.written)) h
 
       by-text : (o : Option (List ℕ)) → TextChars o → IsChars (elim o [ None ↦ [] | Some text ↦ text ])
       by-text None k = refl

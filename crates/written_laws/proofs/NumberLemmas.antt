@@ -17,10 +17,10 @@ use Rattle.term_table.specs.Places.{comes_before, place}
 use Rattle.inv_terms.specs.declared.values.Value.{Value}
 use Rattle.inv_terms.specs.declared.entries.Entry.{Entry}
 use Rattle.inv_terms.specs.Listing.{is_at, value_in}
-use Rattle.inv_terms.specs.declared.lacks.Name.{Name}
-use Rattle.inv_terms.specs.declared.lacks.Name.TheVariants as names
-use Rattle.inv_terms.specs.declared.lacks.Lack.{Lack}
-use Rattle.inv_terms.specs.declared.lacks.TermFault.TheVariants as lack_faults
+use Rattle.inv_terms.specs.declared.violations.Name.{Name}
+use Rattle.inv_terms.specs.declared.violations.Name.TheVariants as names
+use Rattle.inv_terms.specs.declared.violations.ModelViolation.{ModelViolation}
+use Rattle.inv_terms.specs.declared.violations.TermFault.TheVariants as lack_faults
 use Rattle.inv_terms.specs.Lacking.{missing_at, missing_from, first_missing}
 use Rattle.inv_terms.specs.Lacking as lacking
 use Rattle.bind_rows.specs.declared.rows.Row.{Row}
@@ -98,7 +98,7 @@ not-not true h = refl
 not-not false h = absurd (false≢true (sym h))
 
 abbrev HasValue : Told → Type 0
-HasValue t = is_some t.said.value ≡ true
+HasValue t = is_some t.parsed.value ≡ true
 
 module _ (nodes : List Node) where
   has-value : (lists : Lists) (c : Currencies) (before : Option Told) (t : Told) → fault_of nodes lists c before t ≡ [] → HasValue t
@@ -106,12 +106,12 @@ module _ (nodes : List Node) where
       let none = go (first_cause (causes nodes lists c before t)) h in
       let all = all-false (causes nodes lists c before t) none in
       let bad : is_bad nodes t ≡ false = all.1.1.0 in
-      not-not (is_some t.said.value) (neither (is_none t.said.value) (breaks nodes t.placed.pick.row.check t.placed.pick.node) bad).0
+      not-not (is_some t.parsed.value) (neither (is_none t.parsed.value) (breaks nodes t.placed.pick.row.check t.placed.pick.node) bad).0
     where
       go : (o : Option BindKind)
           → ◌≡◌ {A = List Found} (elim o [
             | None ↦ []
-            | Some kind ↦ found (place_at t.placed.pick kind) kind (names.Term t.said.term) t.placed.pick.node ∷ []
+            | Some kind ↦ found (place_at t.placed.pick kind) kind (names.Term t.parsed.term) t.placed.pick.node ∷ []
           ]) []
           → o ≡ None
       go None k = refl
@@ -134,7 +134,7 @@ module _ (nodes : List Node) where
   head-there seats row rows h = go (missing_at seats root_context 0 row) h
     where
       go : (o : Option Name)
-          → ◌≡◌ {A = Option Lack} (elim o [
+          → ◌≡◌ {A = Option ModelViolation} (elim o [
             | Some name ↦ Some (record { place = place 0 root_context; fault = lack_faults.Missing name })
             | None ↦ missing_from seats root_context 1 rows
           ]) None
@@ -150,19 +150,19 @@ module _ (nodes : List Node) where
       go true k = refl
       go false k = absurd (false≢true (sym (ap is_some k)))
 
-  no-lack : (o : Option Lack)
+  no-violation : (o : Option ModelViolation)
       → ◌≡◌ {A = List Found} (elim o [
         | None ↦ []
-        | Some lack ↦ found (missing_place nodes whole lack.place) kinds.Missing (name_of lack.fault) whole.element ∷ []
+        | Some violation ↦ found (missing_place nodes whole violation.place) kinds.Missing (name_of violation.fault) whole.element ∷ []
       ]) []
       → o ≡ None
-  no-lack None k = refl
-  no-lack (Some lack) k = absurd (let z : suc 0 ≡ 0 = ap length k in omega arith)
+  no-violation None k = refl
+  no-violation (Some violation) k = absurd (let z : suc 0 ≡ 0 = ap length k in omega arith)
 
   number-told : (seats : List Seat) → missing_in nodes seats whole ≡ [] → list_any (lacking.is_at root_context invoice_number) seats ≡ true
   number-told seats h =
       let inside = filter (λ (seat : Seat). is_inside root_context seat.context) seats in
-      let none = no-lack (first_missing inside root_context) h in
+      let none = no-violation (first_missing inside root_context) h in
       any-filter (λ (seat : Seat). is_inside root_context seat.context) (lacking.is_at root_context invoice_number) seats
       (number-there inside (head-there inside first_row (drop 1 terms) (subst (λ l. missing_from inside root_context 0 l ≡ None) terms-are none)))
 
@@ -183,16 +183,16 @@ context-same a b h k =
     and-true (same_slot a.outer None) (same_slot a.inner None) (slot-same a.outer b.outer w.0 v.0) (slot-same a.inner b.inner w.1 v.1)
 
 seat-same : (a t : Told) → is_of_seat a t ≡ true → at_number t ≡ true → at_number a ≡ true
-seat-same a t h k = go (same_term a.said.term t.said.term) refl h
+seat-same a t h k = go (same_term a.parsed.term t.parsed.term) refl h
   where
-    w : (same_term t.said.term invoice_number ≡ true) × (same_context (context_of t.placed) root_context ≡ true)
-    w = both (same_term t.said.term invoice_number) (same_context (context_of t.placed) root_context) k
+    w : (same_term t.parsed.term invoice_number ≡ true) × (same_context (context_of t.placed) root_context ≡ true)
+    w = both (same_term t.parsed.term invoice_number) (same_context (context_of t.placed) root_context) k
 
-    go : (b : Bool) → same_term a.said.term t.said.term ≡ b →
+    go : (b : Bool) → same_term a.parsed.term t.parsed.term ≡ b →
         (elim b [ true ↦ same_context (context_of a.placed) (context_of t.placed) | false ↦ false ]) ≡ true → at_number a ≡ true
     go true e l =
-        and-true (same_term a.said.term invoice_number) (same_context (context_of a.placed) root_context)
-        (ap (λ x. same_term x invoice_number) (term-is a.said.term t.said.term e) ∙ w.0) (context-same (context_of a.placed) (context_of t.placed) l w.1)
+        and-true (same_term a.parsed.term invoice_number) (same_context (context_of a.placed) root_context)
+        (ap (λ x. same_term x invoice_number) (term-is a.parsed.term t.parsed.term e) ∙ w.0) (context-same (context_of a.placed) (context_of t.placed) l w.1)
     go false e l = absurd (false≢true l)
 
 found-before : (before : List Told) (t : Told) → is_some (first_before before t) ≡ true → at_number t ≡ true → list_any at_number before ≡ true
@@ -235,11 +235,11 @@ firsts-values before (t ∷ ts) h = go (first_before before t) (firsts-values (b
 entry-there : (ts : List Told) → AllByRecursion HasValue ts → list_any at_number ts ≡ true →
     list_any (is_at invoice_number root_context) (flat_map entry_of ts) ≡ true
 entry-there [] v h = h
-entry-there (t ∷ ts) v h = go t.said.value v.0 (entry-there ts v.1)
+entry-there (t ∷ ts) v h = go t.parsed.value v.0 (entry-there ts v.1)
   where
     go : (o : Option Value) → is_some o ≡ true → (list_any at_number ts ≡ true → list_any (is_at invoice_number root_context) (flat_map entry_of ts) ≡ true)
         → list_any (is_at invoice_number root_context)
-        ((elim o [ None ↦ [] | Some value ↦ record { context = context_of t.placed; term = t.said.term; value = value } ∷ [] ]) ++
+        ((elim o [ None ↦ [] | Some value ↦ record { context = context_of t.placed; term = t.parsed.term; value = value } ∷ [] ]) ++
         flat_map entry_of ts) ≡ true
     go None k f = absurd (false≢true k)
     go (Some value) k f = or-more (at_number t) (list_any at_number ts) (list_any (is_at invoice_number root_context) (flat_map entry_of ts)) h f

@@ -10,7 +10,7 @@ use Rattle.inv_base.specs.Tree.{Forest, no_more, an_element}
 use Rattle.code_lists.specs.CodeFiles.{Lists}
 use Rattle.term_table.specs.declared.groups.Group.{Group}
 use Rattle.term_table.specs.declared.groups.Group.TheVariants as groups
-use Rattle.term_table.specs.declared.terms.Letter.TheVariants as letters
+use Rattle.term_table.specs.declared.terms.DataType.TheVariants as data_types
 use Rattle.term_table.specs.declared.terms.Mark.TheVariants as marks
 use Rattle.term_table.specs.declared.terms.Term.{Term}
 use Rattle.term_table.specs.declared.terms.TermRow.{TermRow}
@@ -103,7 +103,7 @@ always-due es written.IfIban term c text h = absurd (false≢true h)
 always-due es written.IfNotIban term c text h = absurd (false≢true h)
 always-due es written.IfScheme term c text h = absurd (false≢true h)
 always-due es written.IfNoScheme term c text h = absurd (false≢true h)
-always-due es (written.OrFiller filler) term c text h = absurd (false≢true h)
+always-due es (written.OrPlaceholder placeholder) term c text h = absurd (false≢true h)
 always-due es written.VatTotal term c text h = absurd (false≢true h)
 always-due es written.AccountingVatTotal term c text h = absurd (false≢true h)
 
@@ -205,7 +205,7 @@ module _ (es : List Entry) (term : Term) (stands : is_some (value_in es term roo
 -- ---- the number of an invoice stands in a valid one
 
 abbrev pub first_row : TermRow
-first_row = record { term = invoice_number; group = groups.Root; letter = letters.I; mark = marks.One; list = None }
+first_row = record { term = invoice_number; group = groups.Root; data_type = data_types.I; mark = marks.One; list = None }
 
 is-row : Contains terms first_row
 unfolding terms

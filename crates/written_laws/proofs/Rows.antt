@@ -5,8 +5,8 @@ use Rattle.inv_base.specs.Characters.{is_char, is_name_start, is_name_char}
 use Rattle.ubl_binding.specs.Tables.{invoice_listing, invoice_rows, credit_note_listing, credit_note_rows}
 use Rattle.cii_binding.specs.Table.{cii_listing, cii_rows}
 use Rattle.bind_table.specs.Lines.{plan_of}
-use Rattle.bind_rows.specs.declared.tables.Which.{Which}
-use Rattle.bind_rows.specs.declared.tables.Which.TheVariants as which
+use Rattle.bind_rows.specs.declared.tables.DocumentType.{DocumentType}
+use Rattle.bind_rows.specs.declared.tables.DocumentType.TheVariants as document_type
 use Rattle.bind_meaning.specs.Tables.{rows_of}
 use Rattle.written_laws.specs.Readable.{is_readable, reading_limits, shows, invoice_number}
 use Rattle.written_laws.specs.Roots.{root_table}
@@ -35,29 +35,29 @@ shows-cii : shows invoice_number (plan_of cii_rows) ≡ true
 unfolding cii_listing cii_rows
 shows-cii = refl
 
-root-invoice : root_table invoice_rows ≡ Some which.Invoice
+root-invoice : root_table invoice_rows ≡ Some document_type.Invoice
 unfolding invoice_listing invoice_rows
 root-invoice = refl
 
-root-credit_note : root_table credit_note_rows ≡ Some which.CreditNote
+root-credit_note : root_table credit_note_rows ≡ Some document_type.CreditNote
 unfolding credit_note_listing credit_note_rows
 root-credit_note = refl
 
-root-cii : root_table cii_rows ≡ Some which.Cii
+root-cii : root_table cii_rows ≡ Some document_type.Cii
 unfolding cii_listing cii_rows
 root-cii = refl
 
-pub all-readable : (table : Which) → is_readable reading_limits (rows_of table) ≡ true
-all-readable which.Invoice = readable-invoice
-all-readable which.CreditNote = readable-credit_note
-all-readable which.Cii = readable-cii
+pub all-readable : (table : DocumentType) → is_readable reading_limits (rows_of table) ≡ true
+all-readable document_type.Invoice = readable-invoice
+all-readable document_type.CreditNote = readable-credit_note
+all-readable document_type.Cii = readable-cii
 
-pub all-show : (table : Which) → shows invoice_number (plan_of (rows_of table)) ≡ true
-all-show which.Invoice = shows-invoice
-all-show which.CreditNote = shows-credit_note
-all-show which.Cii = shows-cii
+pub all-show : (table : DocumentType) → shows invoice_number (plan_of (rows_of table)) ≡ true
+all-show document_type.Invoice = shows-invoice
+all-show document_type.CreditNote = shows-credit_note
+all-show document_type.Cii = shows-cii
 
-pub all-told : (table : Which) → root_table (rows_of table) ≡ Some table
-all-told which.Invoice = root-invoice
-all-told which.CreditNote = root-credit_note
-all-told which.Cii = root-cii
+pub all-told : (table : DocumentType) → root_table (rows_of table) ≡ Some table
+all-told document_type.Invoice = root-invoice
+all-told document_type.CreditNote = root-credit_note
+all-told document_type.Cii = root-cii

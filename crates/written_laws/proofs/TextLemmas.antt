@@ -10,7 +10,7 @@ use Rattle.inv_terms.specs.declared.entries.Entry.{Entry}
 use Rattle.inv_terms.specs.Listing.{IsInvoice}
 use Rattle.inv_terms.specs.Whole.{IsValid}
 use Rattle.bind_rows.specs.declared.rows.Row.{Row}
-use Rattle.bind_rows.specs.declared.tables.Which.{Which}
+use Rattle.bind_rows.specs.declared.tables.DocumentType.{DocumentType}
 use Rattle.bind_meaning.specs.declared.tables.Syntax.{Syntax}
 use Rattle.bind_meaning.specs.Tables.{rows_of}
 use Rattle.bind_meaning.specs.Terms.{Read, terms_of}
@@ -32,13 +32,13 @@ module _ (spelled : SpelledBack)
     (canonical : (limits : Limits) (declarations : List Declaration) (tree : Forest) → IsWritable limits declarations tree →
     IsXml limits (encode_utf8_all (canonical_text declarations tree)) tree)
   where
-    pub table-xml : (table : Which) (es : List Entry) → IsInvoice es → holds_any (rows_of table) es ≡ true → carrying (rows_of table) es ≡ Ok tt
+    pub table-xml : (table : DocumentType) (es : List Entry) → IsInvoice es → holds_any (rows_of table) es ≡ true → carrying (rows_of table) es ≡ Ok tt
         → IsXml reading_limits (encode_utf8_all (document_text (rows_of table) es)) (document_of (rows_of table) es)
     table-xml table es invoice there by =
         written-xml spelled canonical reading_limits (rows_of table) es invoice (all-readable table) there
         (small (rows_of table) es (carried (rows_of table) es by))
 
-    pub valid-xml : (table : Which) (es : List Entry) (lists : Lists) → IsInvoice es → IsValid es lists → carrying (rows_of table) es ≡ Ok tt
+    pub valid-xml : (table : DocumentType) (es : List Entry) (lists : Lists) → IsInvoice es → IsValid es lists → carrying (rows_of table) es ≡ Ok tt
         → IsXml reading_limits (encode_utf8_all (document_text (rows_of table) es)) (document_of (rows_of table) es)
     valid-xml table es lists invoice valid by = table-xml table es invoice (valid-holds table es lists valid) by
 
@@ -50,10 +50,10 @@ module _ (spelled : SpelledBack)
 
 module _ (laws : Laws)
     (meets : (rows : List Row) (es : List Entry) → carrying rows es ≡ Ok tt → entries_carried rows es ≡ Ok tt)
-    (read_exactly : (table : Which) (es : List Entry) (lists : Lists) → IsInvoice es → IsValid es lists → entries_carried (rows_of table) es ≡ Ok tt
+    (read_exactly : (table : DocumentType) (es : List Entry) (lists : Lists) → IsInvoice es → IsValid es lists → entries_carried (rows_of table) es ≡ Ok tt
     → terms_of (document_nodes (document_of (rows_of table) es)) (rows_of table) lists ≡ Ok (exactly es))
   where
-    pub table-round : (table : Which) (es : List Entry) (lists : Lists) → IsInvoice es → IsValid es lists → carrying (rows_of table) es ≡ Ok tt
+    pub table-round : (table : DocumentType) (es : List Entry) (lists : Lists) → IsInvoice es → IsValid es lists → carrying (rows_of table) es ≡ Ok tt
         → AreReadAs (encode_utf8_all (document_text (rows_of table) es)) lists (exactly es)
     table-round table es lists invoice valid by =
         let back = valid-read laws table es lists invoice valid by in

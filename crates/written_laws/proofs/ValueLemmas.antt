@@ -9,7 +9,7 @@ use Rattle.inv_base.specs.Characters.{is_char, is_within}
 use Rattle.inv_decimal.specs.Digits.{last_digits}
 use Rattle.inv_decimal.specs.CivilDay.{CivilDay}
 use Rattle.inv_decimal.specs.WrittenDay.{plain_day_text}
-use Rattle.term_table.specs.declared.terms.Letter.{Letter}
+use Rattle.term_table.specs.declared.terms.DataType.{DataType}
 use Rattle.term_table.specs.declared.terms.Term.{Term}
 use Rattle.term_table.specs.declared.contexts.Context.{Context}
 use Rattle.term_table.specs.Contexts.{root_context}
@@ -25,12 +25,12 @@ use Rattle.bind_rows.specs.declared.rows.Form.TheVariants as forms
 use Rattle.bind_rows.specs.declared.rows.Row.{Row}
 use Rattle.bind_rows.specs.declared.rows.Written.{Written}
 use Rattle.bind_rows.specs.declared.rows.Written.TheVariants as written
-use Rattle.bind_rows.specs.Added.{letter_of_form, is_typed}
+use Rattle.bind_rows.specs.Added.{data_type_of_form, is_typed}
 use Rattle.bind_meaning.specs.Values.{Image, images, subject_code, form_for}
 use Rattle.bind_meaning.specs.Writing.{context_for, written_among, plain_date, coded_note, formed, is_iban, if_so, scheme_of, if_due, filled, has_slots}
 use Rattle.bind_meaning.specs.Writing.{is_of_type, of_type, of_form, value_for, term_text}
 use Rattle.bind_meaning.specs.Trees.{constant_or_text}
-use Rattle.written_laws.specs.Readable.{constant_of, filler_of}
+use Rattle.written_laws.specs.Readable.{constant_of, placeholder_of}
 use Rattle.written_laws.proofs.ListLemmas.{and-true, or-left, or-right, is-at-most, all-append}
 
 abbrev pub IsChars : List ℕ → Type 0
@@ -63,11 +63,11 @@ day-chars day =
 -- ---- values
 
 -- A string that has a value is of Chars.
-read-chars : (letter : Letter) (text : List ℕ) (value : Value) → value_of letter text ≡ Some value → IsChars text
+read-chars : (data_type : DataType) (text : List ℕ) (value : Value) → value_of data_type text ≡ Some value → IsChars text
 unfolding value_of
-read-chars letter text value h = go (list_all is_char text) h
+read-chars data_type text value h = go (list_all is_char text) h
   where
-    go : (b : Bool) → (if b then value_by letter text else None) ≡ Some value → b ≡ true
+    go : (b : Bool) → (if b then value_by data_type text else None) ≡ Some value → b ≡ true
     go true k = refl
     go false k = absurd (let z : ◌≡◌ {A = Option Value} None (Some value) = k in cc)
 
@@ -75,7 +75,7 @@ abbrev pub AreChars : List Entry → Type 0
 AreChars es = AllByRecursion (λ (e : Entry). IsChars (spelled e.value)) es
 
 abbrev pub SpelledBack : Type 0
-SpelledBack = (letter : Letter) (text : List ℕ) (value : Value) → value_of letter text ≡ Some value → value_of letter (spelled value) ≡ Some value
+SpelledBack = (data_type : DataType) (text : List ℕ) (value : Value) → value_of data_type text ≡ Some value → value_of data_type (spelled value) ≡ Some value
 
 -- The values of an invoice are.
 pub invoice-chars : SpelledBack → (es : List Entry) → IsInvoice es → AreChars es
@@ -83,7 +83,7 @@ invoice-chars back es invoice = go es (recursion_from_All (λ (e : Entry). Fits 
   where
     go : (es : List Entry) → AllByRecursion (λ (e : Entry). Fits e.term e.value) es → AreChars es
     go [] h = tt
-    go (e ∷ es) h = (read-chars h.0.letter (spelled e.value) e.value (back h.0.letter h.0.text e.value h.0.read), go es h.1)
+    go (e ∷ es) h = (read-chars h.0.data_type (spelled e.value) e.value (back h.0.data_type h.0.text e.value h.0.read), go es h.1)
 
 -- It is nothing, or of Chars.
 abbrev pub ValueChars : Option Value → Type 0
@@ -145,13 +145,14 @@ type-chars : (b : Bool) (value : Value) → IsChars (spelled value) → ValueCha
 type-chars true value h = h
 type-chars false value h = tt
 
-letter-chars : (o : Option Letter) (value : Value) → IsChars (spelled value) → ValueChars (elim o [ None ↦ Some value | Some letter ↦ of_type letter value ])
-letter-chars None value h = h
-letter-chars (Some letter) value h = type-chars (is_of_type letter value) value h
+data_type-chars : (o : Option DataType) (value : Value) → IsChars (spelled value) → ValueChars (elim o [ None ↦ Some value | Some data_type ↦ of_type
+    data_type value ])
+data_type-chars None value h = h
+data_type-chars (Some data_type) value h = type-chars (is_of_type data_type value) value h
 
 form-chars : (form : Form) (o : Option Value) → ValueChars o → ValueChars (option_and_then (of_form form) o)
 form-chars form None h = tt
-form-chars form (Some value) h = letter-chars (letter_of_form form) value h
+form-chars form (Some value) h = data_type-chars (data_type_of_form form) value h
 
 -- what a row takes of what stands: whether it says the type itself, and whether the context has its groups
 value-chars : (form : Form) (typed slots : Bool) (o : Option Value) → ValueChars o
@@ -166,7 +167,7 @@ module _ (es : List Entry) (chars : AreChars es) where
   formed-chars forms.PlainDate c value h = date-chars value h
   formed-chars forms.DueDateTypeCode c value h = images-chars (spelled value) h
   formed-chars forms.CodedNote c value h = note-chars (value_in es subject_code c) (spelled value) (standing-chars es chars subject_code c) h
-  formed-chars (forms.Typed letter) c value h = h
+  formed-chars (forms.Typed data_type) c value h = h
   formed-chars forms.TypedPlainDate c value h = date-chars value h
 
   so-chars : (b : Bool) (text : List ℕ) → IsChars text → TextChars (if_so b text)
@@ -180,18 +181,18 @@ module _ (es : List Entry) (chars : AreChars es) where
   due-chars written.IfNotIban term c text h = so-chars (not (is_iban text)) text h
   due-chars written.IfScheme term c text h = so-chars (is_some (value_in es (scheme_of term) c)) text h
   due-chars written.IfNoScheme term c text h = so-chars (is_none (value_in es (scheme_of term) c)) text h
-  due-chars (written.OrFiller filler) term c text h = h
+  due-chars (written.OrPlaceholder placeholder) term c text h = h
   due-chars written.VatTotal term c text h = h
   due-chars written.AccountingVatTotal term c text h = h
 
-  filled-chars : (rule : Written) (c : Context) → IsChars (filler_of rule) → TextChars (filled rule es c)
+  filled-chars : (rule : Written) (c : Context) → IsChars (placeholder_of rule) → TextChars (filled rule es c)
   filled-chars written.Always c h = tt
   filled-chars written.Never c h = tt
   filled-chars written.IfIban c h = tt
   filled-chars written.IfNotIban c h = tt
   filled-chars written.IfScheme c h = tt
   filled-chars written.IfNoScheme c h = tt
-  filled-chars (written.OrFiller filler) c h = so-chars (is_some (value_in es filler.beside c)) filler.text h
+  filled-chars (written.OrPlaceholder placeholder) c h = so-chars (is_some (value_in es placeholder.beside c)) placeholder.text h
   filled-chars written.VatTotal c h = tt
   filled-chars written.AccountingVatTotal c h = tt
 
@@ -199,7 +200,7 @@ module _ (es : List Entry) (chars : AreChars es) where
   taken-chars row term c = value-chars (form_for row.form term) (is_typed (form_for row.form term)) (has_slots row c) (value_in es term c)
       (standing-chars es chars term c)
 
-  term-chars : (row : Row) (term : Term) (c : Context) → IsChars (filler_of row.written) → TextChars (term_text row es term c)
+  term-chars : (row : Row) (term : Term) (c : Context) → IsChars (placeholder_of row.written) → TextChars (term_text row es term c)
   term-chars row term c h = go (value_for row es term c) (taken-chars row term c)
     where
       go : (o : Option Value) → ValueChars o → TextChars (elim o [
@@ -215,7 +216,7 @@ module _ (es : List Entry) (chars : AreChars es) where
   abbrev text_by : Option (List ℕ) → Content → Option (List ℕ)
   text_by o content = elim content [ (contents.Constant text) ↦ Some text | (contents.Term term) ↦ o ]
 
-  pub row-chars : (row : Row) (c : Context) → IsChars (constant_of row.content) → IsChars (filler_of row.written) → TextChars (constant_or_text es c row)
+  pub row-chars : (row : Row) (c : Context) → IsChars (constant_of row.content) → IsChars (placeholder_of row.written) → TextChars (constant_or_text es c row)
   row-chars row c h k = go row.content h
     where
       go : (content : Content) → IsChars (constant_of content) → TextChars (text_by (term_in_row row c content) content)

@@ -57,13 +57,13 @@ abbrev pub constant_of : Content → List ℕ
 constant_of (contents.Term term) = []
 constant_of (contents.Constant text) = text
 
-abbrev pub filler_of : Written → List ℕ
-filler_of (written.OrFiller filler) = filler.text
-filler_of _ = []
+abbrev pub placeholder_of : Written → List ℕ
+placeholder_of (written.OrPlaceholder placeholder) = placeholder.text
+placeholder_of _ = []
 
 -- What a row writes by itself is of Chars.
 abbrev pub has_chars : Cell → Bool
-has_chars cell = list_all is_char (constant_of cell.row.content) && list_all is_char (filler_of cell.row.written)
+has_chars cell = list_all is_char (constant_of cell.row.content) && list_all is_char (placeholder_of cell.row.written)
 
 -- ---- the tests of lines
 

@@ -10,7 +10,7 @@ use Rattle.node_arena.specs.Moves.{tree_nodes}
 use Rattle.code_lists.specs.CodeFiles.{Lists}
 use Rattle.inv_terms.specs.declared.entries.Entry.{Entry}
 use Rattle.bind_rows.specs.declared.rows.Row.{Row}
-use Rattle.bind_rows.specs.declared.tables.Which.{Which}
+use Rattle.bind_rows.specs.declared.tables.DocumentType.{DocumentType}
 use Rattle.bind_meaning.specs.Tables.{rows_of}
 use Rattle.bind_meaning.specs.Terms.{terms_of}
 use Rattle.bind_meaning.specs.Trees.{document_of}
@@ -31,7 +31,7 @@ pub record IsReadBack (limits : Limits) (rows : List Row) (es : List Entry) : Ty
   pub nodes : tree_nodes (record { nodes = (built found.events).nodes; names = found.names }) ≡ document_nodes (document_of rows es)
 
 -- The text is read as a document, and that document as the invoice that the table reads in the tree that it says.
-pub record IsReadByTable (table : Which) (es : List Entry) (lists : Lists) : Type 0 where
+pub record IsReadByTable (table : DocumentType) (es : List Entry) (lists : Lists) : Type 0 where
   pub found : Document
   pub is : document reading_limits (encode_utf8_all (document_text (rows_of table) es)) ≡ Ok found
   pub invoice : invoice_of (tree_nodes (record { nodes = (built found.events).nodes; names = found.names })) lists

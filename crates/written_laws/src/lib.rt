@@ -16,13 +16,13 @@ ghost use Rattle.inv_terms.specs.Listing.{IsInvoice, value_in};
 ghost use Rattle.inv_terms.specs.Whole.{IsValid};
 ghost use Rattle.bind_rows.specs.declared.rows.Row.{Row};
 ghost use Rattle.bind_table.specs.Lines.{plan_of};
-ghost use Rattle.bind_rows.specs.declared.tables.Which.{Which};
+ghost use Rattle.bind_rows.specs.declared.tables.DocumentType.{DocumentType};
 ghost use Rattle.bind_meaning.specs.Tables.{rows_of};
 ghost use Rattle.bind_meaning.specs.Terms.{Read, terms_of};
 ghost use Rattle.bind_meaning.specs.Trees.{document_of};
 ghost use Rattle.bind_write.specs.Documents.{declarations_for};
 ghost use Rattle.bind_carrying.specs.Carrying.{carrying};
-ghost use Rattle.bind_run.specs.Roots.{which_of};
+ghost use Rattle.bind_run.specs.Roots.{document_type_of};
 ghost use Rattle.written_laws.specs.Readable.{reading_limits, is_readable, shows, invoice_number, holds_any};
 ghost use Rattle.written_laws.specs.Reading.{IsSmall, IsReadBack, IsReadByTable};
 ghost use Rattle.written_laws.specs.Roots.{root_table};
@@ -56,8 +56,8 @@ pub fn small_documents_are_read_back()
 
 /// Each of the three tables passes the tests: its documents can be read, and it shows the number of an invoice.
 pub fn tables_are_readable()
-    ensures readable { (table : Which) → is_readable reading_limits (rows_of table) ≡ true }
-    ensures shows { (table : Which) → shows invoice_number (plan_of (rows_of table)) ≡ true }
+    ensures readable { (table : DocumentType) → is_readable reading_limits (rows_of table) ≡ true }
+    ensures shows { (table : DocumentType) → shows invoice_number (plan_of (rows_of table)) ≡ true }
 {}
 
 /// There is a document where a term stands that the table shows. So there is one of each valid invoice where the table
@@ -74,7 +74,7 @@ pub fn shown_terms_make_a_document()
 pub fn read_invoices_have_a_number()
     ensures number { (nodes : List Node) (rows : List Row) (lists : Lists) (read : Read) → terms_of nodes rows lists ≡ Ok read
         → is_some (value_in read.entries invoice_number root_context) ≡ true }
-    ensures document { (table : Which) (nodes : List Node) (rows : List Row) (lists : Lists) (read : Read) → terms_of nodes rows lists ≡ Ok read
+    ensures document { (table : DocumentType) (nodes : List Node) (rows : List Row) (lists : Lists) (read : Read) → terms_of nodes rows lists ≡ Ok read
         → holds_any (rows_of table) read.entries ≡ true }
 {}
 
@@ -86,9 +86,9 @@ pub fn carried_documents_are_small()
 /// So the text that is written of an invoice which one of the three tables carries is read back, where some line holds
 /// an entry, as in each valid invoice.
 pub fn carried_invoices_are_read_back()
-    ensures held { (table : Which) (es : List Entry) → IsInvoice es → holds_any (rows_of table) es ≡ true → carrying (rows_of table) es ≡ Ok tt
+    ensures held { (table : DocumentType) (es : List Entry) → IsInvoice es → holds_any (rows_of table) es ≡ true → carrying (rows_of table) es ≡ Ok tt
         → IsReadBack reading_limits (rows_of table) es }
-    ensures valid { (table : Which) (es : List Entry) (lists : Lists) → IsInvoice es → IsValid es lists → carrying (rows_of table) es ≡ Ok tt
+    ensures valid { (table : DocumentType) (es : List Entry) (lists : Lists) → IsInvoice es → IsValid es lists → carrying (rows_of table) es ≡ Ok tt
         → IsReadBack reading_limits (rows_of table) es }
 {
     spelled_values_are_read_back();
@@ -100,18 +100,19 @@ pub fn carried_invoices_are_read_back()
 /// The root of a document is the one by which its table is told.
 pub fn roots_tell_their_tables()
     ensures document { (limits : Limits) (rows : List Row) (es : List Entry) → is_readable limits rows ≡ true → holds_any rows es ≡ true
-        → which_of (document_nodes (document_of rows es)) ≡ root_table rows }
-    ensures tables { (table : Which) → root_table (rows_of table) ≡ Some table }
+        → document_type_of (document_nodes (document_of rows es)) ≡ root_table rows }
+    ensures tables { (table : DocumentType) → root_table (rows_of table) ≡ Some table }
 {}
 
 /// So what is read of the text is what the table that wrote it reads in the tree that it says: of each invoice that was
 /// read of a document, too.
 pub fn carried_invoices_are_read_by_their_tables()
-    ensures held { (table : Which) (es : List Entry) (lists : Lists) → IsInvoice es → holds_any (rows_of table) es ≡ true → carrying (rows_of table) es ≡ Ok tt
+    ensures held { (table : DocumentType) (es : List Entry) (lists : Lists) → IsInvoice es → holds_any (rows_of table) es ≡ true → carrying (rows_of table) es
+        ≡ Ok tt
         → IsReadByTable table es lists }
-    ensures valid { (table : Which) (es : List Entry) (lists : Lists) → IsInvoice es → IsValid es lists → carrying (rows_of table) es ≡ Ok tt
+    ensures valid { (table : DocumentType) (es : List Entry) (lists : Lists) → IsInvoice es → IsValid es lists → carrying (rows_of table) es ≡ Ok tt
         → IsReadByTable table es lists }
-    ensures read { (table : Which) (nodes : List Node) (rows : List Row) (lists others : Lists) (read : Read) → terms_of nodes rows lists ≡ Ok read →
+    ensures read { (table : DocumentType) (nodes : List Node) (rows : List Row) (lists others : Lists) (read : Read) → terms_of nodes rows lists ≡ Ok read →
         IsInvoice read.entries
         → carrying (rows_of table) read.entries ≡ Ok tt → IsReadByTable table read.entries others }
 {

@@ -8,7 +8,7 @@ ghost use Rattle.inv_terms.specs.declared.entries.Entry.{Entry};
 ghost use Rattle.inv_terms.specs.Listing.{IsInvoice};
 ghost use Rattle.inv_terms.specs.Whole.{IsValid};
 ghost use Rattle.bind_rows.specs.declared.rows.Row.{Row};
-ghost use Rattle.bind_rows.specs.declared.tables.Which.{Which};
+ghost use Rattle.bind_rows.specs.declared.tables.DocumentType.{DocumentType};
 ghost use Rattle.bind_meaning.specs.declared.tables.Syntax.{Syntax};
 ghost use Rattle.bind_meaning.specs.Tables.{rows_of};
 ghost use Rattle.bind_meaning.specs.Trees.{document_of};
@@ -35,9 +35,9 @@ pub fn small_texts_are_documents()
 /// So is the text that an invoice is written as which one of the three tables carries, where some line holds an entry, as
 /// in each valid invoice; and so what a valid invoice is written as in a syntax that carries it.
 pub fn carried_texts_are_documents()
-    ensures held { (table : Which) (es : List Entry) → IsInvoice es → holds_any (rows_of table) es ≡ true → carrying (rows_of table) es ≡ Ok tt
+    ensures held { (table : DocumentType) (es : List Entry) → IsInvoice es → holds_any (rows_of table) es ≡ true → carrying (rows_of table) es ≡ Ok tt
         → IsXml reading_limits (encode_utf8_all (document_text (rows_of table) es)) (document_of (rows_of table) es) }
-    ensures valid { (table : Which) (es : List Entry) (lists : Lists) → IsInvoice es → IsValid es lists → carrying (rows_of table) es ≡ Ok tt
+    ensures valid { (table : DocumentType) (es : List Entry) (lists : Lists) → IsInvoice es → IsValid es lists → carrying (rows_of table) es ≡ Ok tt
         → IsXml reading_limits (encode_utf8_all (document_text (rows_of table) es)) (document_of (rows_of table) es) }
     ensures syntax { (syntax : Syntax) (es : List Entry) (lists : Lists) → IsInvoice es → IsValid es lists → IsCarriedBy syntax es
         → IsXml reading_limits (text_in syntax es) (tree_in syntax es) }
@@ -49,7 +49,7 @@ pub fn carried_texts_are_documents()
 /// The round trip: what a valid invoice is written as, by a table or in a syntax that carries it, is read as exactly that
 /// invoice, with nothing passed over.
 pub fn round_trip()
-    ensures table { (table : Which) (es : List Entry) (lists : Lists) → IsInvoice es → IsValid es lists → carrying (rows_of table) es ≡ Ok tt
+    ensures table { (table : DocumentType) (es : List Entry) (lists : Lists) → IsInvoice es → IsValid es lists → carrying (rows_of table) es ≡ Ok tt
         → AreReadAs (encode_utf8_all (document_text (rows_of table) es)) lists (exactly es) }
     ensures syntax { (syntax : Syntax) (es : List Entry) (lists : Lists) → IsInvoice es → IsValid es lists → IsCarriedBy syntax es
         → AreReadAs (text_in syntax es) lists (exactly es) }

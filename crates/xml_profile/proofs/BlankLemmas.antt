@@ -93,25 +93,28 @@ front-blank n bytes within parts fits blank k h =
     ap is_blank (ap (λ l. get_or l k 0) parts ∙ get_or_append_left within (drop (length within) bytes) 0 k (omega arith)) ∙ blank k h
 
 -- White space was passed over.
-pub blank-passed : (e : Bool) (limits : Limits) (old : Cursor) (bytes within : List ℕ) (taken : List Event → Type 0) (n : ℕ) (nest : State) (rest : List ℕ)
-    → old.nest.position ≡ Farther → is_outside old.nest ≡ true → old.place ≤ limits.bytes → bytes ≡ within ++ drop (length within) bytes →
+pub blank-passed : (e : Bool) (limits : Limits) (old : Cursor) (bytes within : List ℕ) (taken : List Event
+    → Type 0) (n : ℕ) (open_elements : State) (rest : List ℕ)
+    → old.open_elements.position ≡ Farther → is_outside old.open_elements ≡ true → old.place ≤ limits.bytes → bytes ≡ within ++ drop (length within) bytes →
     length within ≤ limits.bytes - old.place
-    → 0 < n → n ≤ length within → AreBlank n within → nest ≡ behind_aside old.nest → rest ≡ drop n bytes
-    → (length rest < length bytes) × GoesOn e limits old (record { nest = nest; place = old.place + n; search = fresh }) bytes rest taken taken
-blank-passed e limits old bytes within taken n nest rest position outside sound parts room some fits blank passed behind =
+    → 0 < n → n ≤ length within → AreBlank n within → open_elements ≡ behind_aside old.open_elements → rest ≡ drop n bytes
+    → (length rest < length bytes) × GoesOn e limits old (record { open_elements = open_elements; place = old.place + n; search = fresh }) bytes rest taken
+        taken
+blank-passed e limits old bytes within taken n open_elements rest position outside sound parts room some fits blank passed behind =
     let lengths : length bytes ≡ length within + length (drop (length within) bytes) = ap length parts ∙ length-append within (drop (length within) bytes) in
     let len : length rest ≡ length bytes - n = ap length behind ∙ length-drop n bytes in
-    let stays : nest ≡ old.nest = passed ∙ aside-stays old.nest position in
+    let stays : open_elements ≡ old.open_elements = passed ∙ aside-stays old.open_elements position in
     let ends : old.place + n ≤ limits.bytes = omega (arith, room, fits) in (
       omega (arith, len, lengths, fits),
       record {
         events = [];
         passed = take n bytes;
         parts = sym (take-append-drop n bytes) ∙ ap (λ r. take n bytes ++ r) (sym behind);
-        is = read-blank e limits old.nest (record { position = position; outside = outside }) n bytes old.place (front-blank n bytes within parts fits blank)
+        is = read-blank e limits old.open_elements (record { position = position; outside = outside }) n bytes old.place (front-blank n bytes within parts
+            fits blank)
             (omega (arith, lengths, fits)) ends
             ∙ ap (λ s. read e limits s (old.place + n) 0 (drop n bytes)) (sym stays)
-            ∙ ap (λ r. read e limits nest (old.place + n) 0 r) (sym behind);
+            ∙ ap (λ r. read e limits open_elements (old.place + n) 0 r) (sym behind);
         told = λ events t. t;
         at = record { within = ends; fits = fresh-fits rest };
       },

@@ -30,7 +30,7 @@ module _ (e : Bool) (limits : Limits) where
     events = a.events ++ b.events;
     passed = a.passed ++ b.passed;
     parts = a.parts ∙ ap (λ r. a.passed ++ r) b.parts ∙ sym (append_assoc a.passed b.passed behind);
-    is = a.is ∙ ap (telling a.events) b.is ∙ telling-both a.events b.events (read e limits new.nest new.place 0 behind);
+    is = a.is ∙ ap (telling a.events) b.is ∙ telling-both a.events b.events (read e limits new.open_elements new.place 0 behind);
     told = takes-both a.events b.events before between after a.told b.told;
     at = b.at;
   }
@@ -69,7 +69,7 @@ module _ (e : Bool) (limits : Limits) where
     events = a.events;
     passed = a.passed;
     parts = a.parts;
-    is = a.is ∙ ap (λ es. record { events = es; stands = waits mid.nest mid.place [] }) (append-nil a.events);
+    is = a.is ∙ ap (λ es. record { events = es; stands = waits mid.open_elements mid.place [] }) (append-nil a.events);
     told = a.told;
     at = a.at;
     searched = few-searched mid.search [] a.at.fits (omega arith);

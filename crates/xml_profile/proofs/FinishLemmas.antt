@@ -126,14 +126,15 @@ none-again : {P : Type 0} (held : Option Inside) (cursor : Cursor) (rest : List 
 none-again held cursor rest fault same = absurd (none-some fault (sym (going-none held cursor rest) ∙ same))
 
 module _ (limits : Limits) (cursor : Cursor) (rest : List ℕ) (before after : List Event → Type 0) where
-  rest-is : (at : Standing) → kept_of at ≡ kept_going None cursor rest → resume true limits at [] ≡ read true limits cursor.nest cursor.place 0 rest
+  rest-is : (at : Standing) → kept_of at ≡ kept_going None cursor rest → resume true limits at [] ≡ read true limits cursor.open_elements cursor.place 0 rest
   unfolding resume
   rest-is at same =
       let s = stands-going at None cursor rest same in
-      ap (λ x. resume true limits x []) s.is ∙ ap (read true limits cursor.nest cursor.place 0) (append-nil s.bytes ∙ kept-rest cursor rest s.bytes s.kept)
+      ap (λ x. resume true limits x []) s.is ∙ ap (read true limits cursor.open_elements cursor.place 0) (append-nil s.bytes
+          ∙ kept-rest cursor rest s.bytes s.kept)
 
   takes-rest : (at : Standing) → kept_of at ≡ kept_going None cursor rest → (events : List Event) →
-      (read true limits cursor.nest cursor.place 0 rest).events ≡ events → TakesAll events before after
+      (read true limits cursor.open_elements cursor.place 0 rest).events ≡ events → TakesAll events before after
       → TakesAll (resume true limits at []).events before after
   takes-rest at same events is told =
       let P : List Event → Type 0 = λ es. TakesAll es before after in subst P (sym (ap (λ (r : Read). r.events) (rest-is at same) ∙ is)) told
@@ -152,8 +153,8 @@ module _ (limits : Limits) (cursor : Cursor) (rest : List ℕ) (before after : L
   -- what a reader's end answers behind its tokens
   abbrev pub EndsBehind : Result (List Name) XmlFault → Cursor → List ℕ → Type 0
   EndsBehind result at left = MatchResult result
-      (λ names. (end_fault at.nest at.place left ≡ None) × (names ≡ at.nest.names))
-      (λ fault. end_fault at.nest at.place left ≡ Some fault)
+      (λ names. (end_fault at.open_elements at.place left ≡ None) × (names ≡ at.open_elements.names))
+      (λ fault. end_fault at.open_elements at.place left ≡ Some fault)
 
   pub ends-behind : (at : Cursor) (left : List ℕ) (result : Result (List Name) XmlFault) → Reaches true limits cursor at rest left before after
       → EndsBehind result at left → EndsAt result (progress_of limits None None cursor rest) before after
@@ -175,7 +176,7 @@ module _ (limits : Limits) (cursor : Cursor) (rest : List ℕ) (before after : L
 module _ (limits : Limits) (held : Inside) (cursor : Cursor) (rest : List ℕ) (taken : List Event → Type 0)
     (within : cursor.place + held.came ≤ limits.bytes) where
   inside-is : (at : Standing) (s : Stands at (Some held) cursor rest) →
-      resume true limits at [] ≡ record { events = []; stands = waits cursor.nest cursor.place s.bytes }
+      resume true limits at [] ≡ record { events = []; stands = waits cursor.open_elements cursor.place s.bytes }
   unfolding resume
   inside-is at s = ap (λ x. resume true limits x []) s.is ∙
       inside-unended true limits cursor held s.bytes [] (kept-inside cursor held rest s.bytes s.kept) within
@@ -183,8 +184,8 @@ module _ (limits : Limits) (held : Inside) (cursor : Cursor) (rest : List ℕ) (
   -- what the end answers behind so many bytes
   abbrev pub EndsInside : Result (List Name) XmlFault → Type 0
   EndsInside result = (left : List ℕ) → length left ≡ held.came → MatchResult result
-      (λ names. (end_fault cursor.nest cursor.place left ≡ None) × (names ≡ cursor.nest.names))
-      (λ fault. end_fault cursor.nest cursor.place left ≡ Some fault)
+      (λ names. (end_fault cursor.open_elements cursor.place left ≡ None) × (names ≡ cursor.open_elements.names))
+      (λ fault. end_fault cursor.open_elements cursor.place left ≡ Some fault)
 
   took : (at : Standing) (s : Stands at (Some held) cursor rest) → TakesAll (resume true limits at []).events taken taken
   took at s = let P : List Event → Type 0 = λ es. TakesAll es taken taken in subst P (sym (ap (λ (r : Read). r.events) (inside-is at s))) (λ events t. t)

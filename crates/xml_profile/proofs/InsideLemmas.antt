@@ -53,14 +53,14 @@ read-open e limits s place bytes a test is none room =
         let one : length (0x3C ∷ a) ≡ 1 + length a = omega arith in
         one ∙ (λ i. sure_length (first i) (rest i))
 
-module _ (e : Bool) (limits : Limits) (old : Cursor) (held : Inside) (bytes piece : List ℕ) (is : IsInside old.nest.position held bytes) where
+module _ (e : Bool) (limits : Limits) (old : Cursor) (held : Inside) (bytes piece : List ℕ) (is : IsInside old.open_elements.position held bytes) where
   -- What it begins with the piece.
-  pub inside-begins : (x : Course) → course (length bytes) held.aside piece ≡ x → beginning old.nest.position e (bytes ++ piece) ≡ begins_by x
-  inside-begins x leads = open-begins old.nest.position bytes piece held.aside is.aside e ∙ ap begins_by leads
+  pub inside-begins : (x : Course) → course (length bytes) held.aside piece ≡ x → beginning old.open_elements.position e (bytes ++ piece) ≡ begins_by x
+  inside-begins x leads = open-begins old.open_elements.position bytes piece held.aside is.aside e ∙ ap begins_by leads
 
   -- It ends in the piece.
   pub inside-closed : (fault : Option XmlKind) (len : ℕ) → course (length bytes) held.aside piece ≡ ends_with fault (length bytes + len)
-      → beginning old.nest.position e (bytes ++ piece) ≡ begins_by (ends_with fault (held.came + len))
+      → beginning old.open_elements.position e (bytes ++ piece) ≡ begins_by (ends_with fault (held.came + len))
   inside-closed fault len leads = inside-begins (ends_with fault (length bytes + len)) leads ∙ ap (λ n. begins_by (ends_with fault (n + len))) is.came
 
   -- It is open behind the piece.
@@ -69,14 +69,14 @@ module _ (e : Bool) (limits : Limits) (old : Cursor) (held : Inside) (bytes piec
       → nat_le (old.place + (held.came + length piece)) limits.bytes ≡ true → TakesAll [] before after →
       StaysInside e limits old old longer (bytes ++ piece) before after
   inside-stays longer before after leads came room told =
-      let first = open-first old.nest.position bytes piece held.aside is.aside in
+      let first = open-first old.open_elements.position bytes piece held.aside is.aside in
       let long : length (bytes ++ piece) ≡ longer.came = length-append bytes piece ∙ (ap (λ n. n + length piece) is.came ∙ sym came) in
       let fits : nat_le (old.place + length (bytes ++ piece)) limits.bytes ≡ true = ap (λ n. nat_le (old.place + n) limits.bytes) (long ∙ came) ∙ room in
       let ends : old.place + longer.came ≤ limits.bytes = grind (arith, nat_tests) in
       record {
         same = refl;
-        is = read-open e limits old.nest old.place (bytes ++ piece) first.0 true first.1 (inside-begins (stays_open longer.aside) leads) fits;
-        inside = record { aside = open-grows old.nest.position bytes piece held.aside is.aside ∙ ap if_open leads; came = long };
+        is = read-open e limits old.open_elements old.place (bytes ++ piece) first.0 true first.1 (inside-begins (stays_open longer.aside) leads) fits;
+        inside = record { aside = open-grows old.open_elements.position bytes piece held.aside is.aside ∙ ap if_open leads; came = long };
         within = ends;
         told = told;
       }
@@ -86,26 +86,26 @@ module _ (e : Bool) (limits : Limits) (old : Cursor) (held : Inside) (bytes piec
       nat_le (old.place + (held.came + length piece)) limits.bytes ≡ false
       → TakesAll [] before after → Breaks e limits old (bytes ++ piece) before after (fault_at TooLong limits.bytes)
   inside-beyond longer before after leads room told =
-      let first = open-first old.nest.position bytes piece held.aside is.aside in
+      let first = open-first old.open_elements.position bytes piece held.aside is.aside in
       let long : length (bytes ++ piece) ≡ held.came + length piece = length-append bytes piece ∙ ap (λ n. n + length piece) is.came in
       let beyond : nat_le (old.place + length (bytes ++ piece)) limits.bytes ≡ false = ap (λ n. nat_le (old.place + n) limits.bytes) long ∙ room in
       breaks-at e limits old (bytes ++ piece) before after (fault_at TooLong limits.bytes)
-      (read-open e limits old.nest old.place (bytes ++ piece) first.0 false first.1 (inside-begins (stays_open longer) leads) beyond) told
+      (read-open e limits old.open_elements old.place (bytes ++ piece) first.0 false first.1 (inside-begins (stays_open longer) leads) beyond) told
 
   -- Where the input ends, it isn't whole.
   pub inside-unended : old.place + held.came ≤ limits.bytes →
-      read e limits old.nest old.place 0 (bytes ++ []) ≡ record { events = []; stands = waits old.nest old.place bytes }
+      read e limits old.open_elements old.place 0 (bytes ++ []) ≡ record { events = []; stands = waits old.open_elements old.place bytes }
   inside-unended within =
-      let first = open-first old.nest.position bytes [] held.aside is.aside in
+      let first = open-first old.open_elements.position bytes [] held.aside is.aside in
       let all : bytes ++ [] ≡ bytes = append-nil bytes in
       let fits : nat_le (old.place + length bytes) limits.bytes ≡ true = let came : length bytes ≡ held.came = is.came in grind (arith, nat_tests) in
-      let none : beginning old.nest.position e bytes ≡ later = ap (beginning old.nest.position e) (sym all) ∙
-      open-begins old.nest.position bytes [] held.aside is.aside e in
-      ap (read e limits old.nest old.place 0) all ∙ read-open e limits old.nest old.place bytes first.0 true (sym all ∙ first.1) none fits
+      let none : beginning old.open_elements.position e bytes ≡ later = ap (beginning old.open_elements.position e) (sym all) ∙
+      open-begins old.open_elements.position bytes [] held.aside is.aside e in
+      ap (read e limits old.open_elements old.place 0) all ∙ read-open e limits old.open_elements old.place bytes first.0 true (sym all ∙ first.1) none fits
 
 -- The end is beyond the limit.
 pub close-beyond : (e : Bool) (limits : Limits) (old : Cursor) (bytes : List ℕ) (before after : List Event → Type 0) (fault : Option XmlKind) (n : ℕ)
-    → beginning old.nest.position e bytes ≡ begins_by (ends_with fault n) → nat_le (old.place + n) limits.bytes ≡ false → TakesAll [] before after →
+    → beginning old.open_elements.position e bytes ≡ begins_by (ends_with fault n) → nat_le (old.place + n) limits.bytes ≡ false → TakesAll [] before after →
     Breaks e limits old bytes before after (fault_at TooLong limits.bytes)
 close-beyond e limits old bytes before after None n is room told = is-beyond e limits old bytes before after an_aside n is room told
 close-beyond e limits old bytes before after (Some kind) n is room told =
@@ -115,7 +115,8 @@ close-beyond e limits old bytes before after (Some kind) n is room told =
 -- It is wrong.
 pub close-wrong : (e : Bool) (limits : Limits) (old : Cursor) (bytes : List ℕ) (before after : List Event → Type 0) (found : Option XmlKind) (kind : XmlKind)
     (n : ℕ) (fault : XmlFault) → found ≡ Some kind
-    → beginning old.nest.position e bytes ≡ begins_by (ends_with found n) → nat_le (old.place + n) limits.bytes ≡ true → fault ≡ fault_at kind old.place →
+    → beginning old.open_elements.position e bytes ≡ begins_by (ends_with found n) → nat_le (old.place + n) limits.bytes ≡ true → fault
+        ≡ fault_at kind old.place →
     TakesAll [] before after → Breaks e limits old bytes before after fault
 close-wrong e limits old bytes before after found kind n fault same is room shown told =
     is-bad e limits old bytes before after kind n fault (is ∙ ap (λ f. begins_by (ends_with f n)) same)
@@ -130,11 +131,13 @@ pub close-behind : (bytes piece behind : List ℕ) (came len : ℕ) → length b
 close-behind bytes piece behind came len long is = is ∙ (ap (drop len) (sym (drop_at bytes piece came long)) ∙ drop-drop len came (bytes ++ piece))
 
 -- Behind it reading goes on.
-pub passed-aside : (e : Bool) (limits : Limits) (old new : Cursor) (bytes behind : List ℕ) (before after : List Event → Type 0) (nest : State) (n : ℕ) →
-    beginning old.nest.position e bytes ≡ good an_aside n
-    → old.place + n ≤ limits.bytes → Advances limits old.nest nest an_aside old.place before after → behind ≡ drop n bytes →
-    new ≡ record { nest = nest; place = old.place + n; search = fresh }
+pub passed-aside : (e : Bool) (limits : Limits) (old new : Cursor) (bytes behind : List ℕ) (before after : List Event
+    → Type 0) (open_elements : State) (n : ℕ) →
+    beginning old.open_elements.position e bytes ≡ good an_aside n
+    → old.place + n ≤ limits.bytes → Advances limits old.open_elements open_elements an_aside old.place before after → behind ≡ drop n bytes →
+    new ≡ record { open_elements = open_elements; place = old.place + n; search = fresh }
     → GoesOn e limits old new bytes behind before after
-passed-aside e limits old new bytes behind before after nest n is room advances rest same =
+passed-aside e limits old new bytes behind before after open_elements n is room advances rest same =
     let within : nat_le (old.place + n) limits.bytes ≡ true = grind (arith, nat_tests) in
-    (advanced e limits bytes before after old new _ behind same (goes-on e limits old bytes before after an_aside n nest behind is within advances rest)).1
+    (advanced e limits bytes before after old new _ behind same (goes-on e limits old bytes before after an_aside n open_elements behind is within advances
+        rest)).1

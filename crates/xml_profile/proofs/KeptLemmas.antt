@@ -41,7 +41,7 @@ taken-kept s place rest = by (open_aside s.position rest)
 -- Where reading stands, by what is kept of it.
 pub record Stands (at : Standing) (held : Option Inside) (cursor : Cursor) (rest : List ℕ) : Type 0 where
   pub bytes : List ℕ
-  pub is : at ≡ reading.waits cursor.nest cursor.place bytes
+  pub is : at ≡ reading.waits cursor.open_elements cursor.place bytes
   pub kept : IsKeptOf held cursor rest bytes
 
 pub stands-going : (at : Standing) (held : Option Inside) (cursor : Cursor) (rest : List ℕ) → kept_of at ≡ kept_going held cursor rest →
@@ -52,7 +52,8 @@ stands-going (reading.waits s place bytes) held cursor rest e = record {
   kept = (let is = parts (open_aside s.position bytes) held e in sym (λ i. kept_by (is.0 i) (is.1 i) bytes (open_aside (is.0 i).position bytes)) ∙ e);
 }
   where
-    parts : (x : Option OpenAside) (held : Option Inside) → kept_by s place bytes x ≡ kept_going held cursor rest → (s ≡ cursor.nest) × (place ≡ cursor.place)
+    parts : (x : Option OpenAside) (held : Option Inside) → kept_by s place bytes x ≡ kept_going held cursor rest → (s ≡ cursor.open_elements) × (place
+        ≡ cursor.place)
     parts None None f = (cc f, cc f)
     parts None (Some held) f = absurd (cc f)
     parts (Some aside) None f = absurd (cc f)
@@ -69,29 +70,32 @@ stands-stopped (reading.waits s place bytes) fault e = absurd (by (open_aside s.
 stands-stopped (reading.stopped f) fault e = let same : f ≡ fault = cc e in ap reading.stopped same
 
 pub kept-rest : (cursor : Cursor) (rest bytes : List ℕ) → IsKeptOf None cursor rest bytes → bytes ≡ rest
-kept-rest cursor rest bytes e = by (open_aside cursor.nest.position bytes) e
+kept-rest cursor rest bytes e = by (open_aside cursor.open_elements.position bytes) e
   where
-    by : (x : Option OpenAside) → kept_by cursor.nest cursor.place bytes x ≡ waits cursor.nest cursor.place rest → bytes ≡ rest
+    by : (x : Option OpenAside) → kept_by cursor.open_elements cursor.place bytes x ≡ waits cursor.open_elements cursor.place rest → bytes ≡ rest
     by None f = cc f
     by (Some aside) f = absurd (cc f)
 
-pub kept-inside : (cursor : Cursor) (held : Inside) (rest bytes : List ℕ) → IsKeptOf (Some held) cursor rest bytes → IsInside cursor.nest.position held bytes
-kept-inside cursor held rest bytes e = by (open_aside cursor.nest.position bytes) refl e
+pub kept-inside : (cursor : Cursor) (held : Inside) (rest bytes : List ℕ) → IsKeptOf (Some held) cursor rest bytes
+    → IsInside cursor.open_elements.position held bytes
+kept-inside cursor held rest bytes e = by (open_aside cursor.open_elements.position bytes) refl e
   where
-    by : (x : Option OpenAside) → open_aside cursor.nest.position bytes ≡ x →
-        kept_by cursor.nest cursor.place bytes x ≡ inside cursor.nest cursor.place held.came held.aside → IsInside cursor.nest.position held bytes
+    by : (x : Option OpenAside) → open_aside cursor.open_elements.position bytes ≡ x →
+        kept_by cursor.open_elements cursor.place bytes x ≡ inside cursor.open_elements cursor.place held.came held.aside
+            → IsInside cursor.open_elements.position held bytes
     by None f g = absurd (cc g)
     by (Some aside) f g =
         let same : aside ≡ held.aside = cc g in
         let came : length bytes ≡ held.came = cc g in
         record { aside = f ∙ ap Some same; came = came }
 
-pub inside-kept : (cursor : Cursor) (held : Inside) (rest bytes : List ℕ) → IsInside cursor.nest.position held bytes → IsKeptOf (Some held) cursor rest bytes
+pub inside-kept : (cursor : Cursor) (held : Inside) (rest bytes : List ℕ) → IsInside cursor.open_elements.position held bytes
+    → IsKeptOf (Some held) cursor rest bytes
 inside-kept cursor held rest bytes is =
-    ap (kept_by cursor.nest cursor.place bytes) is.aside ∙ ap (λ n. inside cursor.nest cursor.place n held.aside) is.came
+    ap (kept_by cursor.open_elements cursor.place bytes) is.aside ∙ ap (λ n. inside cursor.open_elements cursor.place n held.aside) is.came
 
-pub rest-kept : (cursor : Cursor) (rest : List ℕ) → open_aside cursor.nest.position rest ≡ None → IsKeptOf None cursor rest rest
-rest-kept cursor rest other = ap (kept_by cursor.nest cursor.place rest) other
+pub rest-kept : (cursor : Cursor) (rest : List ℕ) → open_aside cursor.open_elements.position rest ≡ None → IsKeptOf None cursor rest rest
+rest-kept cursor rest other = ap (kept_by cursor.open_elements cursor.place rest) other
 
 -- Before a fault none is kept.
 pub going-none : (held : Option Inside) (cursor : Cursor) (rest : List ℕ) → fault_of_kept (kept_going held cursor rest) ≡ None
@@ -124,25 +128,26 @@ module _ (e : Bool) (limits : Limits) (old new : Cursor) (before after : List Ev
   kept-back (Some held) bytes left a = let all : length bytes - 0 ≡ length bytes = omega arith in ap (λ n. drop n bytes) all ∙
       drop_all (length bytes) bytes (omega arith)
 
-  going-reached : (held : Option Inside) (bytes left : List ℕ) → Reaches e limits old new bytes left before after → InsideOf new.nest.position held left →
+  going-reached : (held : Option Inside) (bytes left : List ℕ) → Reaches e limits old new bytes left before after
+      → InsideOf new.open_elements.position held left →
       IsGoing limits held new (kept_part held left)
   going-reached None bytes left a is = record { at = a.at; searched = a.searched; other = is }
   going-reached (Some held) bytes left a is = record { none = refl; within = within left is a.room; bytes = left; inside = is }
     where
-      within : (left : List ℕ) → IsInside new.nest.position held left →
+      within : (left : List ℕ) → IsInside new.open_elements.position held left →
           ((b : ℕ) (more : List ℕ) → left ≡ b ∷ more → new.place + sure_length b more ≤ limits.bytes) → new.place + held.came ≤ limits.bytes
       within left is room =
-          let o = open-first new.nest.position left [] held.aside is.aside in
+          let o = open-first new.open_elements.position left [] held.aside is.aside in
           let all : left ≡ 0x3C ∷ o.0 = sym (append-nil left) ∙ o.1 in
           let sure : new.place + (1 + length o.0) ≤ limits.bytes = room 0x3C o.0 all in
           omega (arith, ap length all, is.came)
 
-  kept-reached : (held : Option Inside) (left : List ℕ) → InsideOf new.nest.position held left → IsKeptOf held new (kept_part held left) left
+  kept-reached : (held : Option Inside) (left : List ℕ) → InsideOf new.open_elements.position held left → IsKeptOf held new (kept_part held left) left
   kept-reached None left is = rest-kept new left is
   kept-reached (Some held) left is = inside-kept new held [] left is
 
   pub reaches-leaves : (held : Option Inside) (bytes left rest : List ℕ) → Reaches e limits old new bytes left before after →
-      InsideOf new.nest.position held left → rest ≡ kept_part held left
+      InsideOf new.open_elements.position held left → rest ≡ kept_part held left
       → Leaves e limits old new bytes held rest before after
   reaches-leaves held bytes left rest a is same =
       let P : List ℕ → Type 0 = λ r. Leaves e limits old new bytes held r before after in
@@ -161,14 +166,14 @@ module _ (e : Bool) (limits : Limits) (old new : Cursor) (before after : List Ev
   stays-leaves held bytes rest s none = record {
     events = [];
     left = bytes;
-    is = s.is ∙ (λ i. record { events = []; stands = reading.waits (sym s.same i).nest (sym s.same i).place bytes });
+    is = s.is ∙ (λ i. record { events = []; stands = reading.waits (sym s.same i).open_elements (sym s.same i).place bytes });
     told = s.told;
-    kept = inside-kept new held rest bytes (subst (λ (c : Cursor). IsInside c.nest.position held bytes) (sym s.same) s.inside);
+    kept = inside-kept new held rest bytes (subst (λ (c : Cursor). IsInside c.open_elements.position held bytes) (sym s.same) s.inside);
     going = record {
       none = none;
       within = subst (λ (c : Cursor). c.place + held.came ≤ limits.bytes) (sym s.same) s.within;
       bytes = bytes;
-      inside = subst (λ (c : Cursor). IsInside c.nest.position held bytes) (sym s.same) s.inside;
+      inside = subst (λ (c : Cursor). IsInside c.open_elements.position held bytes) (sym s.same) s.inside;
     };
   }
 
@@ -200,7 +205,7 @@ module _ (limits : Limits) (cursor : Cursor) (rest : List ℕ) (some : Option In
   pub going-rest : some ≡ None → IsGoing limits some cursor rest → IsWaiting limits cursor rest
   going-rest is going = let P : Option Inside → Type 0 = λ o. IsGoing limits o cursor rest in subst P is going
 
-  pub kept-some : (held : Inside) (bytes : List ℕ) → some ≡ Some held → IsKeptOf some cursor rest bytes → IsInside cursor.nest.position held bytes
+  pub kept-some : (held : Inside) (bytes : List ℕ) → some ≡ Some held → IsKeptOf some cursor rest bytes → IsInside cursor.open_elements.position held bytes
   kept-some held bytes is kept = let P : Option Inside → Type 0 = λ o. IsKeptOf o cursor rest bytes in kept-inside cursor held rest bytes (subst P is kept)
 
   pub kept-none : (bytes : List ℕ) → some ≡ None → IsKeptOf some cursor rest bytes → bytes ≡ rest

@@ -49,7 +49,7 @@ feeds-again limits held old rest piece fault taken = record {
 
 module _ (limits : Limits) (held : Option Inside) (old : Cursor) (rest piece : List ℕ) (before after : List Event → Type 0) where
   -- where reading stands, and what the piece tells from there
-  resumes : (at : Standing) (s : Stands at held old rest) → resume false limits at piece ≡ read false limits old.nest old.place 0 (s.bytes ++ piece)
+  resumes : (at : Standing) (s : Stands at held old rest) → resume false limits at piece ≡ read false limits old.open_elements old.place 0 (s.bytes ++ piece)
   unfolding resume
   resumes at s = ap (λ x. resume false limits x piece) s.is
 

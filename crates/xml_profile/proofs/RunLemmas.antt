@@ -151,13 +151,15 @@ run-at limits place bytes within text utf8 some plain outer room inner fits =
     record { utf8 = utf8; some = some; plain = plain; parts = front-of-front bytes within text outer inner; within = omega (arith, lengths) }
 
 module _ (e : Bool) (limits : Limits) (old : Cursor) (bytes : List ℕ) (before after : List Event → Type 0) where
-  text-taken : (nest : State) (rest text characters : List ℕ) → old.nest.position ≡ Farther → is_outside old.nest ≡ false → encode_utf8_all characters ≡ text
+  text-taken : (open_elements : State) (rest text characters : List ℕ) → old.open_elements.position ≡ Farther → is_outside old.open_elements ≡ false
+      → encode_utf8_all characters ≡ text
       → list_all is_plain characters ≡ true → 0 < length text → bytes ≡ text ++ rest → old.place + length text ≤ limits.bytes
-      → AdvancesText limits old.nest nest characters old.place before after
-      → (length rest < length bytes) × GoesOn e limits old (record { nest = nest; place = old.place + length text; search = fresh }) bytes rest before after
-  text-taken nest rest text [] position inside spells plain some parts within advances =
+      → AdvancesText limits old.open_elements open_elements characters old.place before after
+      → (length rest < length bytes) × GoesOn e limits old (record { open_elements = open_elements; place = old.place + length text; search = fresh }) bytes
+          rest before after
+  text-taken open_elements rest text [] position inside spells plain some parts within advances =
       let none : 0 ≡ length text = ap length spells in absurd (omega arith)
-  text-taken nest rest text (c ∷ characters) position inside spells plain some parts within advances =
+  text-taken open_elements rest text (c ∷ characters) position inside spells plain some parts within advances =
       let lengths : length bytes ≡ length text + length rest = ap length parts ∙ length-append text rest in
       let whole = c ∷ characters in
       let fits : old.place + length (encode_utf8_all whole) ≤ limits.bytes = omega (arith, within, ap length spells) in (
@@ -166,27 +168,30 @@ module _ (e : Bool) (limits : Limits) (old : Cursor) (bytes : List ℕ) (before 
           events = run_events whole old.place;
           passed = text;
           parts = parts;
-          is = ap (read e limits old.nest old.place 0) (parts ∙ ap (λ t. t ++ rest) (sym spells))
-              ∙ read-run e limits old.nest (record { position = position; inside = inside; room = advances.admitted }) c characters old.place rest plain fits
+          is = ap (read e limits old.open_elements old.place 0) (parts ∙ ap (λ t. t ++ rest) (sym spells))
+              ∙ read-run e limits old.open_elements (record { position = position; inside = inside; room = advances.admitted }) c characters old.place rest
+                  plain fits
               ∙ ap (λ s. telling (run_events whole old.place) (read e limits s (old.place + length (encode_utf8_all whole)) 0 rest)) (sym advances.behind)
-              ∙ ap (λ t. telling (run_events whole old.place) (read e limits nest (old.place + length t) 0 rest)) spells;
+              ∙ ap (λ t. telling (run_events whole old.place) (read e limits open_elements (old.place + length t) 0 rest)) spells;
           told = λ events taken. subst after (sym (run-told events c characters old.place)) (advances.told events taken);
           at = record { within = within; fits = fresh-fits rest };
         },
       )
 
   -- A run of characters was taken.
-  pub run-taken : (nest : State) (rest text : List ℕ) → old.nest.position ≡ Farther → is_outside old.nest ≡ false → IsRun limits old.place bytes text
-      → AdvancesText limits old.nest nest (chars text) old.place before after → rest ≡ drop (length text) bytes
-      → (length rest < length bytes) × GoesOn e limits old (record { nest = nest; place = old.place + length text; search = fresh }) bytes rest before after
-  run-taken nest rest text position inside run advances behind =
-      text-taken nest rest text (chars text) position inside (encode-chars text run.utf8) run.plain run.some
+  pub run-taken : (open_elements : State) (rest text : List ℕ) → old.open_elements.position ≡ Farther → is_outside old.open_elements ≡ false
+      → IsRun limits old.place bytes text
+      → AdvancesText limits old.open_elements open_elements (chars text) old.place before after → rest ≡ drop (length text) bytes
+      → (length rest < length bytes) × GoesOn e limits old (record { open_elements = open_elements; place = old.place + length text; search = fresh }) bytes
+          rest before after
+  run-taken open_elements rest text position inside run advances behind =
+      text-taken open_elements rest text (chars text) position inside (encode-chars text run.utf8) run.plain run.some
       (run.parts ∙ ap (λ r. text ++ r) (sym behind)) run.within advances
 
-  text-refused-at : (rest text characters : List ℕ) (fault : XmlFault) → old.nest.position ≡ Farther → is_outside old.nest ≡ false →
+  text-refused-at : (rest text characters : List ℕ) (fault : XmlFault) → old.open_elements.position ≡ Farther → is_outside old.open_elements ≡ false →
       encode_utf8_all characters ≡ text
       → list_all is_plain characters ≡ true → 0 < length text → bytes ≡ text ++ rest → old.place + length text ≤ limits.bytes
-      → RefusedText limits old.nest old.place before after fault → Breaks e limits old bytes before after fault
+      → RefusedText limits old.open_elements old.place before after fault → Breaks e limits old bytes before after fault
   text-refused-at rest text characters fault position inside spells plain some parts within (text_of_memory told) =
       breaks-at-once e limits old bytes before after told
   text-refused-at rest text [] fault position inside spells plain some parts within (text_too_many full told) =
@@ -201,15 +206,17 @@ module _ (e : Bool) (limits : Limits) (old : Cursor) (bytes : List ℕ) (before 
       let room : nat_le (old.place + n) limits.bytes ≡ true = grind (arith, nat_tests) in
       let here : bytes ≡ encode_utf8 c ++ (encode_utf8_all characters ++ rest) =
       parts ∙ ap (λ t. t ++ rest) (sym spells) ∙ append_assoc (encode_utf8 c) (encode_utf8_all characters) rest in
-      let begun : beginning old.nest.position e bytes ≡ good (a_character c) n =
-      ap (beginning old.nest.position e) here ∙ ap (λ p. beginning p e (encode_utf8 c ++ (encode_utf8_all characters ++ rest))) position
+      let begun : beginning old.open_elements.position e bytes ≡ good (a_character c) n =
+      ap (beginning old.open_elements.position e) here ∙ ap (λ p. beginning p e (encode_utf8 c ++ (encode_utf8_all characters ++ rest))) position
       ∙ plain-begins Farther e c (encode_utf8_all characters ++ rest) refl tests.0 in
       breaks-at e limits old bytes before after (fault_at TooManyNodes old.place)
-      (read-refused e limits old.nest old.place bytes (a_character c) n TooManyNodes begun room (text-refused limits old.nest c inside full)) told
+      (read-refused e limits old.open_elements old.place bytes (a_character c) n TooManyNodes begun room (text-refused limits old.open_elements c inside
+          full)) told
 
   -- A run of characters was refused.
-  pub run-refused : (text : List ℕ) (fault : XmlFault) → old.nest.position ≡ Farther → is_outside old.nest ≡ false → IsRun limits old.place bytes text
-      → RefusedText limits old.nest old.place before after fault → Breaks e limits old bytes before after fault
+  pub run-refused : (text : List ℕ) (fault : XmlFault) → old.open_elements.position ≡ Farther → is_outside old.open_elements ≡ false
+      → IsRun limits old.place bytes text
+      → RefusedText limits old.open_elements old.place before after fault → Breaks e limits old bytes before after fault
   run-refused text fault position inside run refused =
       text-refused-at (drop (length text) bytes) text (chars text) fault position inside
       (encode-chars text run.utf8) run.plain run.some run.parts run.within refused

@@ -53,10 +53,11 @@ continues-as found variant s bytes is h = let P : Beginning → Type 0 = λ f. C
 module _ (e : Bool) (limits : Limits) (old : Cursor) (bytes : List ℕ) (before after : List Event → Type 0) where
   -- Before anything was told, memory ran out.
   pub breaks-at-once : TakesAll [] before after → Breaks e limits old bytes before after WANT_OF_MEMORY
-  breaks-at-once told = courses.of_memory [] (read e limits old.nest old.place 0 bytes).events refl told
+  breaks-at-once told = courses.of_memory [] (read e limits old.open_elements old.place 0 bytes).events refl told
 
   -- The fault of a read.
-  pub breaks-at : (fault : XmlFault) → read e limits old.nest old.place 0 bytes ≡ record { events = []; stands = stopped fault } → TakesAll [] before after
+  pub breaks-at : (fault : XmlFault) → read e limits old.open_elements old.place 0 bytes ≡ record { events = []; stands = stopped fault }
+      → TakesAll [] before after
       → Breaks e limits old bytes before after fault
   breaks-at fault is told = courses.of_bytes fault [] is told
 
@@ -64,56 +65,59 @@ module _ (e : Bool) (limits : Limits) (old : Cursor) (bytes : List ℕ) (before 
   breaks-as f g is h = let P : XmlFault → Type 0 = λ x. Breaks e limits old bytes before after x in subst P (sym is) h
 
   -- A token was refused.
-  pub refuses : (token : Token) (n : ℕ) (fault : XmlFault) → spec.beginning old.nest.position e bytes ≡ spec.good token n →
+  pub refuses : (token : Token) (n : ℕ) (fault : XmlFault) → spec.beginning old.open_elements.position e bytes ≡ spec.good token n →
       nat_le (old.place + n) limits.bytes ≡ true
-      → Refused limits old.nest token old.place before after fault → Breaks e limits old bytes before after fault
+      → Refused limits old.open_elements token old.place before after fault → Breaks e limits old bytes before after fault
   refuses token n fault is room (of_token kind refused told) =
-      breaks-at (fault_at kind old.place) (read-refused e limits old.nest old.place bytes token n kind is room refused) told
+      breaks-at (fault_at kind old.place) (read-refused e limits old.open_elements old.place bytes token n kind is room refused) told
   refuses token n fault is room (at_once told) = breaks-at-once told
   refuses token n fault is room (of_memory admitted front) =
-      let rest = read e limits (state_behind old.nest token) (old.place + n) 0 (drop n bytes) in
+      let rest = read e limits (state_behind old.open_elements token) (old.place + n) 0 (drop n bytes) in
       courses.of_memory front.front (front.others ++ rest.events)
-      (ap (λ (r : Read). r.events) (read-good e limits old.nest old.place bytes token n is room admitted)
+      (ap (λ (r : Read). r.events) (read-good e limits old.open_elements old.place bytes token n is room admitted)
       ∙ ap (λ es. es ++ rest.events) front.is ∙ append_assoc front.front front.others rest.events) front.told
 
   -- A token was taken.
-  pub goes-on : (token : Token) (n : ℕ) (nest : State) (rest : List ℕ) → spec.beginning old.nest.position e bytes ≡ spec.good token n
-      → nat_le (old.place + n) limits.bytes ≡ true → Advances limits old.nest nest token old.place before after → rest ≡ drop n bytes
-      → (length rest < length bytes) × GoesOn e limits old (record { nest = nest; place = old.place + n; search = fresh }) bytes rest before after
-  goes-on token n nest rest is room advances behind =
-      let w = token-within old.nest e bytes token n is in
+  pub goes-on : (token : Token) (n : ℕ) (open_elements : State) (rest : List ℕ) → spec.beginning old.open_elements.position e bytes ≡ spec.good token n
+      → nat_le (old.place + n) limits.bytes ≡ true → Advances limits old.open_elements open_elements token old.place before after → rest ≡ drop n bytes
+      → (length rest < length bytes) × GoesOn e limits old (record { open_elements = open_elements; place = old.place + n; search = fresh }) bytes rest before
+          after
+  goes-on token n open_elements rest is room advances behind =
+      let w = token-within old.open_elements e bytes token n is in
       let len : length rest ≡ length bytes - n = ap length behind ∙ length-drop n bytes in (
         omega (arith, w.0, w.1, len),
         record {
-          events = events_of old.nest token old.place;
+          events = events_of old.open_elements token old.place;
           passed = take n bytes;
           parts = sym (take-append-drop n bytes) ∙ ap (λ r. take n bytes ++ r) (sym behind);
-          is = read-good e limits old.nest old.place bytes token n is room advances.admitted
-              ∙ ap (λ s. telling (events_of old.nest token old.place) (read e limits s (old.place + n) 0 (drop n bytes))) (sym advances.behind)
-              ∙ ap (λ r. telling (events_of old.nest token old.place) (read e limits nest (old.place + n) 0 r)) (sym behind);
+          is = read-good e limits old.open_elements old.place bytes token n is room advances.admitted
+              ∙ ap (λ s. telling (events_of old.open_elements token old.place) (read e limits s (old.place + n) 0 (drop n bytes))) (sym advances.behind)
+              ∙ ap (λ r. telling (events_of old.open_elements token old.place) (read e limits open_elements (old.place + n) 0 r)) (sym behind);
           told = advances.told;
           at = record { within = grind (arith, nat_tests); fits = fresh-fits rest };
         },
       )
 
   -- A token or fault would end beyond the limit.
-  pub is-beyond : (token : Token) (n : ℕ) → spec.beginning old.nest.position e bytes ≡ spec.good token n → nat_le (old.place + n) limits.bytes ≡ false →
+  pub is-beyond : (token : Token) (n : ℕ) → spec.beginning old.open_elements.position e bytes ≡ spec.good token n → nat_le (old.place + n) limits.bytes
+      ≡ false →
       TakesAll [] before after
       → Breaks e limits old bytes before after (fault_at TooLong limits.bytes)
-  is-beyond token n is room told = breaks-at _ (read-beyond e limits old.nest old.place bytes token n is room) told
+  is-beyond token n is room told = breaks-at _ (read-beyond e limits old.open_elements old.place bytes token n is room) told
 
-  bad-by : (kind : XmlKind) (test : Bool) → read e limits old.nest old.place 0 bytes ≡ (if test then stops_at kind old.place else stops_at TooLong limits.bytes)
+  bad-by : (kind : XmlKind) (test : Bool) → read e limits old.open_elements old.place 0 bytes
+      ≡ (if test then stops_at kind old.place else stops_at TooLong limits.bytes)
       → TakesAll [] before after
       → Breaks e limits old bytes before after (if test then fault_at kind old.place else fault_at TooLong limits.bytes)
   bad-by kind true is told = breaks-at _ is told
   bad-by kind false is told = breaks-at _ is told
 
   -- What is bad.
-  pub is-bad : (kind : XmlKind) (n : ℕ) (fault : XmlFault) → spec.beginning old.nest.position e bytes ≡ spec.bad kind n
+  pub is-bad : (kind : XmlKind) (n : ℕ) (fault : XmlFault) → spec.beginning old.open_elements.position e bytes ≡ spec.bad kind n
       → fault ≡ (if nat_le (old.place + n) limits.bytes then fault_at kind old.place else fault_at TooLong limits.bytes)
       → TakesAll [] before after → Breaks e limits old bytes before after fault
   is-bad kind n fault is shown told =
-      breaks-as _ fault shown (bad-by kind (nat_le (old.place + n) limits.bytes) (read-bad e limits old.nest old.place bytes kind n is) told)
+      breaks-as _ fault shown (bad-by kind (nat_le (old.place + n) limits.bytes) (read-bad e limits old.open_elements old.place bytes kind n is) told)
 
 -- What is known by another name.
 module _ (e : Bool) (limits : Limits) (bytes : List ℕ) (before after : List Event → Type 0) where
@@ -123,12 +127,12 @@ module _ (e : Bool) (limits : Limits) (bytes : List ℕ) (before after : List Ev
       let P : Cursor → Type 0 = λ x. (length rest < length bytes) × GoesOn e limits old x bytes rest before after in subst P (sym is) goes
 
   -- how far the next token was searched makes no difference
-  pub turns-anew : (nest : State) (place : ℕ) (search other : Searched) (new : Cursor) (turn : Turn) →
-      Turns turn e limits (record { nest = nest; place = place; search = search }) new bytes before after
-      → Turns turn e limits (record { nest = nest; place = place; search = other }) new bytes before after
-  turns-anew nest place search other new (Behind rest) t =
+  pub turns-anew : (open_elements : State) (place : ℕ) (search other : Searched) (new : Cursor) (turn : Turn) →
+      Turns turn e limits (record { open_elements = open_elements; place = place; search = search }) new bytes before after
+      → Turns turn e limits (record { open_elements = open_elements; place = place; search = other }) new bytes before after
+  turns-anew open_elements place search other new (Behind rest) t =
       (t.0, record { events = t.1.events; passed = t.1.passed; parts = t.1.parts; is = t.1.is; told = t.1.told; at = t.1.at })
-  turns-anew nest place search other new Unfinished t =
+  turns-anew open_elements place search other new Unfinished t =
       record {
         events = t.events;
         passed = t.passed;
@@ -141,10 +145,10 @@ module _ (e : Bool) (limits : Limits) (bytes : List ℕ) (before after : List Ev
         ends_within =
             t.ends_within;
       }
-  turns-anew nest place search other new (Stopped fault) t = broken fault t
+  turns-anew open_elements place search other new (Stopped fault) t = broken fault t
     where
-      broken : (fault : XmlFault) → Breaks e limits (record { nest = nest; place = place; search = search }) bytes before after fault
-          → Breaks e limits (record { nest = nest; place = place; search = other }) bytes before after fault
+      broken : (fault : XmlFault) → Breaks e limits (record { open_elements = open_elements; place = place; search = search }) bytes before after fault
+          → Breaks e limits (record { open_elements = open_elements; place = place; search = other }) bytes before after fault
       broken fault (courses.of_bytes f events is told) = courses.of_bytes f events is told
       broken fault (courses.of_memory front others is told) = courses.of_memory front others is told
 
@@ -164,26 +168,27 @@ read-unfinished e limits s place c a len test is sure room =
 -- What begins isn't whole.
 pub is-unfinished : (e : Bool) (limits : Limits) (old : Cursor) (bytes : List ℕ) (before after : List Event → Type 0) (len : ℕ) (search : Searched) →
     0 < length bytes → IsSure len bytes
-    → spec.beginning old.nest.position e bytes ≡ spec.later → nat_le (old.place + len) limits.bytes ≡ true → IsSearched search bytes → old.place ≤ limits.bytes
+    → spec.beginning old.open_elements.position e bytes ≡ spec.later → nat_le (old.place + len) limits.bytes ≡ true → IsSearched search bytes
+        → old.place ≤ limits.bytes
     → TakesAll [] before after
-    → Reaches e limits old (record { nest = old.nest; place = old.place; search = search }) bytes bytes before after
+    → Reaches e limits old (record { open_elements = old.open_elements; place = old.place; search = search }) bytes bytes before after
 is-unfinished e limits old [] before after len search some sure is room searched within told = absurd (omega arith)
 is-unfinished e limits old (c ∷ a) before after len search some sure is room searched within told = record {
   events = [];
   passed = [];
   parts = refl;
-  is = read-unfinished e limits old.nest old.place c a len true is sure room;
+  is = read-unfinished e limits old.open_elements old.place c a len true is sure room;
   told = told;
   at = record { within = within; fits = searched.fits };
   searched = searched;
   room = λ b more same. (let long : len ≡ spec.sure_length b more = sure b more same in grind (arith, nat_tests));
-  ends_within = later-within e limits old.nest old.place c a is (ap (λ k. nat_le (old.place + k) limits.bytes) (sym (sure c a refl)) ∙ room);
+  ends_within = later-within e limits old.open_elements old.place c a is (ap (λ k. nat_le (old.place + k) limits.bytes) (sym (sure c a refl)) ∙ room);
 }
 
 pub is-unfinished-beyond : (e : Bool) (limits : Limits) (old : Cursor) (bytes : List ℕ) (before after : List Event → Type 0) (len : ℕ) → 0 < length bytes →
     IsSure len bytes
-    → spec.beginning old.nest.position e bytes ≡ spec.later → nat_le (old.place + len) limits.bytes ≡ false → TakesAll [] before after
+    → spec.beginning old.open_elements.position e bytes ≡ spec.later → nat_le (old.place + len) limits.bytes ≡ false → TakesAll [] before after
     → Breaks e limits old bytes before after (fault_at TooLong limits.bytes)
 is-unfinished-beyond e limits old [] before after len some sure is room told = absurd (omega arith)
 is-unfinished-beyond e limits old (c ∷ a) before after len some sure is room told =
-    breaks-at e limits old (c ∷ a) before after _ (read-unfinished e limits old.nest old.place c a len false is sure room) told
+    breaks-at e limits old (c ∷ a) before after _ (read-unfinished e limits old.open_elements old.place c a len false is sure room) told

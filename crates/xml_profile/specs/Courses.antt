@@ -30,7 +30,7 @@ pub record GoesOn (ended : Bool) (limits : Limits) (old new : Cursor) (bytes res
   pub events : List Event
   pub passed : List ℕ
   pub parts : bytes ≡ passed ++ rest
-  pub is : read ended limits old.nest old.place 0 bytes ≡ telling events (read ended limits new.nest new.place 0 rest)
+  pub is : read ended limits old.open_elements old.place 0 bytes ≡ telling events (read ended limits new.open_elements new.place 0 rest)
   pub told : TakesAll events before after
   pub at : IsAt limits new rest
 
@@ -39,7 +39,7 @@ pub record Reaches (ended : Bool) (limits : Limits) (old new : Cursor) (bytes re
   pub events : List Event
   pub passed : List ℕ
   pub parts : bytes ≡ passed ++ rest
-  pub is : read ended limits old.nest old.place 0 bytes ≡ record { events = events; stands = waits new.nest new.place rest }
+  pub is : read ended limits old.open_elements old.place 0 bytes ≡ record { events = events; stands = waits new.open_elements new.place rest }
   pub told : TakesAll events before after
   pub at : IsAt limits new rest
   pub searched : IsSearched new.search rest
@@ -49,9 +49,10 @@ pub record Reaches (ended : Bool) (limits : Limits) (old new : Cursor) (bytes re
 -- The bytes have this fault, and what stands before it was taken; or memory ran out, and a front of what they tell was
 -- taken.
 pub data Breaks (ended : Bool) (limits : Limits) (old : Cursor) (bytes : List ℕ) (before after : List Event → Type 0) : XmlFault → Type 0 where
-  of_bytes : (fault : XmlFault) (events : List Event) → read ended limits old.nest old.place 0 bytes ≡ record { events = events; stands = stopped fault }
+  of_bytes : (fault : XmlFault) (events : List Event) → read ended limits old.open_elements old.place 0 bytes
+      ≡ record { events = events; stands = stopped fault }
       → TakesAll events before after → Breaks ended limits old bytes before after fault
-  of_memory : (front others : List Event) → (read ended limits old.nest old.place 0 bytes).events ≡ front ++ others
+  of_memory : (front others : List Event) → (read ended limits old.open_elements old.place 0 bytes).events ≡ front ++ others
       → TakesAll front before after → Breaks ended limits old bytes before after WANT_OF_MEMORY
 
 -- what one turn does
@@ -78,8 +79,8 @@ kept_len (Some held) n = 0
 -- The comment or instruction is open behind all bytes, within the limit.
 pub record StaysInside (ended : Bool) (limits : Limits) (old new : Cursor) (held : Inside) (bytes : List ℕ) (before after : List Event → Type 0) : Type 0 where
   pub same : new ≡ old
-  pub is : read ended limits old.nest old.place 0 bytes ≡ record { events = []; stands = waits old.nest old.place bytes }
-  pub inside : IsInside old.nest.position held bytes
+  pub is : read ended limits old.open_elements old.place 0 bytes ≡ record { events = []; stands = waits old.open_elements old.place bytes }
+  pub inside : IsInside old.open_elements.position held bytes
   pub within : old.place + held.came ≤ limits.bytes
   pub told : TakesAll [] before after
 
@@ -91,25 +92,25 @@ AsideTurns (Stopped fault) ended limits old new held bytes before after = Breaks
 
 -- what is kept before a fault: where reading stands before the rest, or inside a comment or instruction
 abbrev pub kept_going : Option Inside → Cursor → List ℕ → Kept
-kept_going None cursor rest = keeping.waits cursor.nest cursor.place rest
-kept_going (Some held) cursor rest = keeping.inside cursor.nest cursor.place held.came held.aside
+kept_going None cursor rest = keeping.waits cursor.open_elements cursor.place rest
+kept_going (Some held) cursor rest = keeping.inside cursor.open_elements cursor.place held.came held.aside
 
 -- The bytes are those of which this is kept.
 abbrev pub IsKeptOf : Option Inside → Cursor → List ℕ → List ℕ → Type 0
-IsKeptOf held cursor rest bytes = kept_by cursor.nest cursor.place bytes (open_aside cursor.nest.position bytes) ≡ kept_going held cursor rest
+IsKeptOf held cursor rest bytes = kept_by cursor.open_elements cursor.place bytes (open_aside cursor.open_elements.position bytes) ≡ kept_going held cursor rest
 
 -- Reading stands before the rest, which was searched and is no comment or instruction.
 pub record IsWaiting (limits : Limits) (cursor : Cursor) (rest : List ℕ) : Type 0 where
   pub at : IsAt limits cursor rest
   pub searched : IsSearched cursor.search rest
-  pub other : open_aside cursor.nest.position rest ≡ None
+  pub other : open_aside cursor.open_elements.position rest ≡ None
 
 -- Reading stands inside a comment or instruction, of which no byte is kept: some bytes are the one of which this is.
 pub record StandsInside (limits : Limits) (held : Inside) (cursor : Cursor) (rest : List ℕ) : Type 0 where
   pub none : rest ≡ []
   pub within : cursor.place + held.came ≤ limits.bytes
   pub bytes : List ℕ
-  pub inside : IsInside cursor.nest.position held bytes
+  pub inside : IsInside cursor.open_elements.position held bytes
 
 -- the one or the other
 abbrev pub IsGoing : Limits → Option Inside → Cursor → List ℕ → Type 0
@@ -121,7 +122,7 @@ pub record Leaves (ended : Bool) (limits : Limits) (old new : Cursor) (bytes : L
     (before after : List Event → Type 0) : Type 0 where
   pub events : List Event
   pub left : List ℕ
-  pub is : read ended limits old.nest old.place 0 bytes ≡ record { events = events; stands = waits new.nest new.place left }
+  pub is : read ended limits old.open_elements old.place 0 bytes ≡ record { events = events; stands = waits new.open_elements new.place left }
   pub told : TakesAll events before after
   pub kept : IsKeptOf held new rest left
   pub going : IsGoing limits held new rest

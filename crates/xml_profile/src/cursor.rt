@@ -20,7 +20,7 @@ ghost use Rattle.xml_profile.specs.Courses.{Leaves};
 use inv_base::Place;
 use std::alloc::{AllocError, Global};
 use xml_events::{Events, NameTable};
-use xml_state::{Limits, Nest, XmlFault};
+use xml_state::{Limits, OpenElements, XmlFault};
 use xml_tokens::{
     Beginning, ClosedAside, OpenAside, PlainTag, Position, Search, Token, XmlKind, plain_tag,
     run_at_front, what_begins,
@@ -29,7 +29,7 @@ use xml_tokens::{
 /// Where reading stands: what stands behind the tokens before, how many bytes they take, and how far the next one was
 /// searched.
 pub(crate) struct Cursor {
-    pub nest: Nest,
+    pub open_elements: OpenElements,
     pub place: u64,
     pub search: Search,
 }
@@ -37,11 +37,11 @@ pub(crate) struct Cursor {
 impl Drop for Cursor {
     fn drop(self) {
         let Cursor {
-            nest,
+            open_elements,
             place: _,
             search,
         } = self;
-        drop(nest);
+        drop(open_elements);
         drop(search);
     }
 }
@@ -163,10 +163,10 @@ fn front_within(bytes: &[u8], room: u64) -> &[u8]
 impl Cursor {
     /// Before the first byte.
     pub fn new(alloc: Global) -> Cursor
-        ensures { (result.nest ≡ begin) × (result.place ≡ 0) × (result.search ≡ fresh) }
+        ensures { (result.open_elements ≡ begin) × (result.place ≡ 0) × (result.search ≡ fresh) }
     {
         Cursor {
-            nest: Nest::new(alloc),
+            open_elements: OpenElements::new(alloc),
             place: 0,
             search: Search::new(),
         }
@@ -174,9 +174,9 @@ impl Cursor {
 
     /// The open comment or instruction that the bytes here are, if they are one.
     fn inside_of(&self, bytes: &[u8]) -> Option<Inside>
-        ensures { InsideOf self.now.nest.position result bytes.now }
+        ensures { InsideOf self.now.open_elements.position result bytes.now }
     {
-        inside_at(self.nest.position(), bytes)
+        inside_at(self.open_elements.position(), bytes)
     }
 
     /// Whether so many further bytes end within the limit.
@@ -212,7 +212,7 @@ impl Cursor {
         requires within { len ≤ length bytes.now }
         requires room { self.old.place + len < 2 ^ 64 }
         ensures behind { result.now ≡ drop len bytes.now }
-        ensures cursor { self.new ≡ record { nest = self.old.nest; place = self.old.place + len; search = fresh } }
+        ensures cursor { self.new ≡ record { open_elements = self.old.open_elements; place = self.old.place + len; search = fresh } }
     {
         self.move_on(len as u64);
         bytes.split_at(len).1
@@ -221,7 +221,7 @@ impl Cursor {
     /// Stands behind so many further bytes.
     fn move_on(&mut self, len: u64)
         requires { self.old.place + len < 2 ^ 64 }
-        ensures { self.new ≡ record { nest = self.old.nest; place = self.old.place + len; search = fresh } }
+        ensures { self.new ≡ record { open_elements = self.old.open_elements; place = self.old.place + len; search = fresh } }
     {
         self.place += len;
         self.search = Search::new();
@@ -237,7 +237,7 @@ impl Cursor {
         events: &mut E,
     ) -> Turn<'b>
         requires within { self.old.place ≤ reading.limits.bytes }
-        requires begins { beginning self.old.nest.position reading.ended bytes.now ≡ good (seen_token token.now) len }
+        requires begins { beginning self.old.open_elements.position reading.ended bytes.now ≡ good (seen_token token.now) len }
         ensures { Turns result reading.ended reading.limits self.old self.new bytes.now (E.taken events.old) (E.taken events.new) }
     {
         if !self.has_room(reading.limits.bytes, len) {
@@ -245,7 +245,7 @@ impl Cursor {
         }
         let place = Place { byte: self.place };
         match self
-            .nest
+            .open_elements
             .take(reading.alloc, &reading.limits, token, place, events)
         {
             Ok(()) => Turn::Behind(self.advance(bytes, len)),
@@ -274,7 +274,7 @@ impl Cursor {
         events: &mut E,
     ) -> Turn<'b>
         requires within { self.old.place ≤ reading.limits.bytes }
-        requires begins { beginning self.old.nest.position reading.ended bytes.now ≡ good (plain_token tag) tag.len }
+        requires begins { beginning self.old.open_elements.position reading.ended bytes.now ≡ good (plain_token tag) tag.len }
         ensures { Turns result reading.ended reading.limits self.old self.new bytes.now (E.taken events.old) (E.taken events.new) }
     {
         let token = tag.token(reading.alloc);
@@ -311,7 +311,7 @@ impl Cursor {
         requires some { 0 < length bytes.now }
         ensures { Turns result reading.ended reading.limits self.old self.new bytes.now (E.taken events.old) (E.taken events.new) }
     {
-        let position = self.nest.position();
+        let position = self.open_elements.position();
         match what_begins(
             reading.alloc,
             position,
@@ -345,15 +345,15 @@ impl Cursor {
     ) -> Turn<'b>
         requires at { IsAt reading.limits self.old bytes.now }
         requires some { 0 < length bytes.now }
-        requires outside { is_outside self.old.nest ≡ true }
-        requires position { self.old.nest.position ≡ Farther }
+        requires outside { is_outside self.old.open_elements ≡ true }
+        requires position { self.old.open_elements.position ≡ Farther }
         ensures { Turns result reading.ended reading.limits self.old self.new bytes.now (E.taken events.old) (E.taken events.new) }
     {
         let len = blank_len(front_within(bytes, reading.limits.bytes - self.place));
         if len == 0 {
             return self.token(reading, bytes, events);
         }
-        self.nest.pass();
+        self.open_elements.pass();
         Turn::Behind(self.advance(bytes, len))
     }
 
@@ -366,8 +366,8 @@ impl Cursor {
     ) -> Turn<'b>
         requires at { IsAt reading.limits self.old bytes.now }
         requires some { 0 < length bytes.now }
-        requires inside { is_outside self.old.nest ≡ false }
-        requires position { self.old.nest.position ≡ Farther }
+        requires inside { is_outside self.old.open_elements ≡ false }
+        requires position { self.old.open_elements.position ≡ Farther }
         ensures { Turns result reading.ended reading.limits self.old self.new bytes.now (E.taken events.old) (E.taken events.new) }
     {
         let text = run_at_front(front_within(bytes, reading.limits.bytes - self.place));
@@ -375,7 +375,10 @@ impl Cursor {
             return self.token(reading, bytes, events);
         }
         let place = Place { byte: self.place };
-        match self.nest.tell(&reading.limits, text, place, events) {
+        match self
+            .open_elements
+            .tell(&reading.limits, text, place, events)
+        {
             Ok(()) => Turn::Behind(self.advance(bytes, text.len())),
             Err(fault) => Turn::Stopped(fault),
         }
@@ -387,11 +390,11 @@ impl Cursor {
         requires some { 0 < length bytes.now }
         ensures { Turns result reading.ended reading.limits self.old self.new bytes.now (E.taken events.old) (E.taken events.new) }
     {
-        match self.nest.position() {
+        match self.open_elements.position() {
             Position::AtStart | Position::BehindMark => return self.token(reading, bytes, events),
             Position::Farther => {}
         }
-        if self.nest.is_outside() {
+        if self.open_elements.is_outside() {
             self.outside(reading, bytes, events)
         } else {
             self.inside(reading, bytes, events)
@@ -430,11 +433,17 @@ impl Cursor {
         events: &mut E,
     ) -> Turn<'b>
         requires { self.old.place + len ≤ reading.limits.bytes }
-        ensures { (held : _) (bytes : List ℕ) → beginning self.old.nest.position reading.ended bytes ≡ good an_aside len → behind.now ≡ drop len bytes
+        ensures { (held : _) (bytes : List ℕ) → beginning self.old.open_elements.position reading.ended bytes ≡ good an_aside len → behind.now ≡ drop len bytes
             → AsideTurns result reading.ended reading.limits self.old self.new held bytes (E.taken events.old) (E.taken events.new) }
     {
         let place = Place { byte: self.place };
-        match self.nest.take(reading.alloc, &reading.limits, &Token::Aside, place, events) {
+        match self.open_elements.take(
+            reading.alloc,
+            &reading.limits,
+            &Token::Aside,
+            place,
+            events,
+        ) {
             Ok(()) => {
                 self.move_on(len);
                 Turn::Behind(behind)
@@ -454,7 +463,7 @@ impl Cursor {
     ) -> Turn<'b>
         requires within { self.old.place + came ≤ reading.limits.bytes }
         requires inside { closed.len ≤ length piece.now }
-        ensures { (held : _) (bytes : List ℕ) → length bytes ≡ came → beginning self.old.nest.position reading.ended (bytes ++ piece.now) ≡ begins_by
+        ensures { (held : _) (bytes : List ℕ) → length bytes ≡ came → beginning self.old.open_elements.position reading.ended (bytes ++ piece.now) ≡ begins_by
             (ends_with closed.fault (came + closed.len))
             → AsideTurns result reading.ended reading.limits self.old self.new held (bytes ++ piece.now) (E.taken events.old) (E.taken events.new) }
     {
@@ -479,7 +488,7 @@ impl Cursor {
         events: &mut E,
     ) -> Turn<'b>
         requires { self.old.place + held.old.came ≤ reading.limits.bytes }
-        ensures { (bytes : List ℕ) → IsInside self.old.nest.position held.old bytes
+        ensures { (bytes : List ℕ) → IsInside self.old.open_elements.position held.old bytes
             → AsideTurns result reading.ended reading.limits self.old self.new held.new (bytes ++ piece.now) (E.taken events.old) (E.taken events.new) }
     {
         match held.aside.take(piece) {
@@ -527,7 +536,7 @@ impl Cursor {
         events: &mut E,
     ) -> Result<(), XmlFault>
         requires { StandsInside reading.limits held self.old rest.old.items }
-        ensures { (bytes : List ℕ) → IsInside self.old.nest.position held bytes → MatchResult result
+        ensures { (bytes : List ℕ) → IsInside self.old.open_elements.position held bytes → MatchResult result
             (λ _. Leaves reading.ended reading.limits self.old self.new (bytes ++ piece.now) inside.new rest.new.items (E.taken events.old)
             (E.taken events.new))
             (λ fault. Breaks reading.ended reading.limits self.old (bytes ++ piece.now) (E.taken events.old) (E.taken events.new) fault) }
@@ -610,23 +619,23 @@ impl Cursor {
     pub fn end(self, limit: u64, left: u64) -> Result<NameTable, XmlFault>
         requires { self.place + left ≤ limit }
         ensures { (rest : List ℕ) → length rest ≡ left → MatchResult result
-            (λ table. (end_fault self.nest self.place rest ≡ None) × (table ≡ self.nest.names))
-            (λ fault. end_fault self.nest self.place rest ≡ Some fault) }
+            (λ table. (end_fault self.open_elements self.place rest ≡ None) × (table ≡ self.open_elements.names))
+            (λ fault. end_fault self.open_elements self.place rest ≡ Some fault) }
     {
         let Cursor {
-            nest,
+            open_elements,
             place,
             search: _,
         } = self;
         if left > 0 {
             return Err(fault_at(XmlKind::Truncated, place + left));
         }
-        if !nest.is_outside() {
+        if !open_elements.is_outside() {
             return Err(fault_at(XmlKind::Truncated, place));
         }
-        if !nest.root_seen() {
+        if !open_elements.root_seen() {
             return Err(fault_at(XmlKind::NoRoot, place));
         }
-        Ok(nest.into_names())
+        Ok(open_elements.into_names())
     }
 }

@@ -8,6 +8,7 @@ pub mod NumberLemmas
 pub mod RecentLemmas
 pub mod NamingLemmas
 pub mod TellingLemmas
-pub mod NestLemmas
+pub mod OpenElementsLemmas
 pub mod StartLemmas
 pub mod TextLemmas
+pub mod LimitLaws

@@ -6,8 +6,8 @@ mod duplicates;
 mod fault;
 mod limits;
 mod naming;
-mod nest;
 mod numbering;
+mod open_elements;
 mod recent;
 mod registry;
 mod scopes;
@@ -18,4 +18,4 @@ mod written;
 
 pub use fault::XmlFault;
 pub use limits::{DOCUMENT_LIMITS, Limits, RULE_LIMITS};
-pub use nest::Nest;
+pub use open_elements::OpenElements;

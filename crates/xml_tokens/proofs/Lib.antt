@@ -30,3 +30,4 @@ pub mod AsciiLemmas
 pub mod CalmLemmas
 pub mod FrontLemmas
 pub mod PlainTagLemmas
+pub mod LimitLaws

@@ -7,7 +7,6 @@ use Rattle.std.specs.Str.{is_utf8}
 use Rattle.inv_base.specs.Characters.{is_char}
 use Rattle.xml_tokens.specs.declared.encoding.Begun.{Begun}
 use Rattle.xml_tokens.specs.declared.encoding.Begun.TheVariants as begun
-use Rattle.xml_tokens.specs.declared.greatest.TheConstants.{GREATEST_TAG}
 use Rattle.xml_tokens.specs.declared.kind.XmlKind.{XmlKind}
 use Rattle.xml_tokens.specs.declared.kind.XmlKind.TheVariants.{TagTooLong, NotUtf8, BadChar, Doctype, BadMarkup, BadReference}
 use Rattle.xml_tokens.specs.Searches.{begins_with, ends_inside, shared_front, place_of, behind, none_within, none_yet, tag_end}
@@ -52,7 +51,7 @@ extent_through string opening bytes grammar = elim (place_of string bytes) [
 
 -- the greatest number of bytes of a tag, its `<` and `>` among them, a limit that the standard has not
 abbrev pub greatest_tag : ℕ
-greatest_tag = GREATEST_TAG
+greatest_tag = 262144
 
 -- a tag, by the bytes behind its `<`
 abbrev pub tag_at : List ℕ → Beginning

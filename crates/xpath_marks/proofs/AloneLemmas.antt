@@ -8,15 +8,15 @@ use Rattle.xpath_meaning.specs.Expressions as x
 use Rattle.xpath_meaning.specs.Expressions.{Exp, NodeTest}
 use Rattle.xpath_meaning.specs.Items.{is_empty}
 use Rattle.xpath_meaning.specs.Resolving.{Operand, in_axis_order, kept_of, step_of}
-use Rattle.xpath_plan.specs.declared.work.Kind.{Kind}
-use Rattle.xpath_plan.specs.declared.work.Kind.TheVariants as kd
-use Rattle.xpath_plan.specs.declared.work.Link.{Link}
-use Rattle.xpath_plan.specs.declared.work.Simple.{Simple}
-use Rattle.xpath_plan.specs.declared.work.Simple.TheVariants as s
-use Rattle.xpath_plan.specs.declared.work.StepTest.{StepTest}
-use Rattle.xpath_plan.specs.declared.work.StepTest.TheVariants as t
-use Rattle.xpath_plan.specs.declared.work.Work.{Work}
-use Rattle.xpath_plan.specs.declared.work.Work.TheVariants as w
+use Rattle.xpath_plan.specs.declared.plan_node.Operation.{Operation}
+use Rattle.xpath_plan.specs.declared.plan_node.Operation.TheVariants as kd
+use Rattle.xpath_plan.specs.declared.plan_node.Separator.{Separator}
+use Rattle.xpath_plan.specs.declared.plan_node.Simple.{Simple}
+use Rattle.xpath_plan.specs.declared.plan_node.Simple.TheVariants as s
+use Rattle.xpath_plan.specs.declared.plan_node.StepTest.{StepTest}
+use Rattle.xpath_plan.specs.declared.plan_node.StepTest.TheVariants as t
+use Rattle.xpath_plan.specs.declared.plan_node.PlanNode.{PlanNode}
+use Rattle.xpath_plan.specs.declared.plan_node.PlanNode.TheVariants as w
 use Rattle.xpath_plan.specs.Plans.{seen, made, simple_seen, test_seen}
 use Rattle.xpath_parts.proofs.SeenLemmas.{seen-simple}
 use Rattle.xpath_parts.specs.Contexts.{operands_of}
@@ -31,10 +31,10 @@ none_some x e = cc
 
 -- ---- the name that a first part goes to
 
-pub filtered_yes : (kind : Kind) (first : Work) → is_filter kind ≡ true → filtered_name kind first ≡ step_name first
+pub filtered_yes : (kind : Operation) (first : PlanNode) → is_filter kind ≡ true → filtered_name kind first ≡ step_name first
 filtered_yes kind first h = ap (λ (b : Bool). elim b [ true ↦ step_name first | false ↦ None ]) h
 
-pub filtered_no : (kind : Kind) (first : Work) → is_filter kind ≡ false → filtered_name kind first ≡ None
+pub filtered_no : (kind : Operation) (first : PlanNode) → is_filter kind ≡ false → filtered_name kind first ≡ None
 filtered_no kind first h = ap (λ (b : Bool). elim b [ true ↦ step_name first | false ↦ None ]) h
 
 pub some_so : {P : Type 0} (o : Option ℕ) → P → IfSome o (λ k. P)
@@ -136,12 +136,12 @@ root_none names (s.Outer other) name h e = false≢true h
 root_none names (s.Step axis test) name h e = false≢true h
 root_none names (s.Called function) name h e = false≢true h
 
-pub root_alone : (names : List Name) (work : Work) (simple : Simple) (name : Name) → work ≡ w.Simple simple → is_root simple ≡ true →
+pub root_alone : (names : List Name) (work : PlanNode) (simple : Simple) (name : Name) → work ≡ w.Simple simple → is_root simple ≡ true →
     alone (seen names work) ≡ Some name → ⊥
 root_alone names work simple name is root e = root_none names simple name root (sym (ap alone (ap (seen names) is ∙ seen-simple names simple)) ∙ e)
 
 -- the name that a step looks for
-pub alone_named : (names : List Name) (work : Work) (simple : Simple) (k : ℕ) (name : Name) → work ≡ w.Simple simple → simple ≡ s.Step a.Child (t.Named k)
+pub alone_named : (names : List Name) (work : PlanNode) (simple : Simple) (k : ℕ) (name : Name) → work ≡ w.Simple simple → simple ≡ s.Step a.Child (t.Named k)
     → alone (seen names work) ≡ Some name → test_seen names (t.Named k) ≡ Some (x.named name)
 alone_named names work simple k name is step e =
     (named_step a.Child (test_seen names (t.Named k)) name
@@ -168,13 +168,13 @@ simple_alone names (s.Variable height) name none e = none_some name e
 simple_alone names (s.Outer other) name none e = none_some name e
 simple_alone names (s.Called function) name none e = none_some name e
 
-pub other_alone : (names : List Name) (work : Work) (simple : Simple) (name : Name) → work ≡ w.Simple simple → child_name simple ≡ None →
+pub other_alone : (names : List Name) (work : PlanNode) (simple : Simple) (name : Name) → work ≡ w.Simple simple → child_name simple ≡ None →
     alone (seen names work) ≡ Some name → ⊥
 other_alone names work simple name is none e = simple_alone names simple name none (sym (ap alone (ap (seen names) is ∙ seen-simple names simple)) ∙ e)
 
 -- ---- works with parts
 
-none_made : (kind : Kind) → alone (made kind []) ≡ None
+none_made : (kind : Operation) → alone (made kind []) ≡ None
 none_made kd.Chain = refl
 none_made (kd.Bound binder) = refl
 none_made kd.Conditional = refl
@@ -189,14 +189,16 @@ none_made (kd.Call function) = refl
 none_made (kd.Matches pattern) = refl
 none_made kd.Nothing = refl
 
-pub empty_alone : (names : List Name) (work : Work) (kind : Kind) (parts : List (Link × Work)) (name : Name) → work ≡ w.Node kind parts → parts ≡ [] →
+pub empty_alone : (names : List Name) (work : PlanNode) (kind : Operation) (parts : List (Separator × PlanNode)) (name : Name) → work ≡ w.Node kind parts
+    → parts ≡ [] →
     alone (seen names work) ≡ Some name → ⊥
 empty_alone names work kind parts name is none e =
     none_some name (sym (none_made kind) ∙
     (sym (ap alone (ap (seen names) is ∙ (node_seen names kind parts ∙ ap (λ ps. made kind (operands_of names ps)) none))) ∙ e))
 
 -- The first part alone is the name.
-first_made : (names : List Name) (kind : Kind) (link : Link) (work : Work) (others : List (Link × Work)) → is_found_by_first kind link (is_empty others) ≡ true
+first_made : (names : List Name) (kind : Operation) (link : Separator) (work : PlanNode) (others : List (Separator × PlanNode))
+    → is_found_by_first kind link (is_empty others) ≡ true
     → alone (made kind (operands_of names ((link, work) ∷ others))) ≡ alone (seen names work)
 first_made names kd.FilteredStep link work [] h = alone_ordered (seen names work)
 first_made names kd.FreeStep link work [] h = alone_ordered (seen names work)
@@ -215,14 +217,14 @@ first_made names (kd.Matches pattern) link work others h = absurd (false≢true 
 first_made names kd.Nothing link work others h = absurd (false≢true h)
 
 -- Nothing else that has parts is.
-made_none : (names : List Name) (kind : Kind) (link : Link) (work : Work) (others : List (Link × Work)) (name : Name) →
+made_none : (names : List Name) (kind : Operation) (link : Separator) (work : PlanNode) (others : List (Separator × PlanNode)) (name : Name) →
     is_first_part kind link (is_empty others) ≡ false → is_filter kind ≡ false
     → alone (made kind (operands_of names ((link, work) ∷ others))) ≡ Some name → ⊥
 made_none names kind link work others name h f e =
     let whole = made kind (operands_of names ((link, work) ∷ others)) in
     none_some name (sym (ap alone (no_step names kind link work others h f (alone_step whole name e))) ∙ e)
 
-other_made : (names : List Name) (kind : Kind) (link : Link) (work : Work) (others : List (Link × Work)) (name : Name) →
+other_made : (names : List Name) (kind : Operation) (link : Separator) (work : PlanNode) (others : List (Separator × PlanNode)) (name : Name) →
     is_found_by_first kind link (is_empty others) ≡ false
     → alone (made kind (operands_of names ((link, work) ∷ others))) ≡ Some name → ⊥
 other_made names kd.FilteredStep link work [] name h e = true≢false h
@@ -245,8 +247,9 @@ other_made names (kd.Call function) link work others name h e = made_none names 
 other_made names (kd.Matches pattern) link work others name h e = made_none names (kd.Matches pattern) link work others name h refl e
 other_made names kd.Nothing link work others name h e = made_none names kd.Nothing link work others name h refl e
 
-module _ (names : List Name) (work : Work) (kind : Kind) (parts : List (Link × Work)) (is : work ≡ w.Node kind parts) (first : Link × Work)
-    (others : List (Link × Work)) (divided : parts ≡ first ∷ others) where
+module _ (names : List Name) (work : PlanNode) (kind : Operation) (parts : List (Separator × PlanNode)) (is : work ≡ w.Node kind parts) (first : Separator
+    × PlanNode)
+    (others : List (Separator × PlanNode)) (divided : parts ≡ first ∷ others) where
   divided_alone : alone (seen names work) ≡ alone (made kind (operands_of names (first ∷ others)))
   divided_alone = ap alone (ap (seen names) is ∙ (node_seen names kind parts ∙ ap (λ ps. made kind (operands_of names ps)) divided))
 

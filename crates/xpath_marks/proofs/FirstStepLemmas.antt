@@ -16,16 +16,16 @@ use Rattle.xpath_meaning.specs.Resolving.{Operand, step_of}
 use Rattle.xpath_meaning.specs.Patterns.{found_at, kept_nodes, with_number, is_kept}
 use Rattle.xpath_meaning.specs.Steps.{keeps}
 use Rattle.xpath_meaning.specs.Values.{then_}
-use Rattle.xpath_plan.specs.declared.work.Kind.{Kind}
-use Rattle.xpath_plan.specs.declared.work.Link.{Link}
-use Rattle.xpath_plan.specs.declared.work.Work.{Work}
-use Rattle.xpath_plan.specs.declared.work.Work.TheVariants as w
-use Rattle.xpath_plan.specs.declared.work.Simple.{Simple}
-use Rattle.xpath_plan.specs.declared.work.Simple.TheVariants as s
-use Rattle.xpath_plan.specs.declared.work.StepTest.TheVariants as t
+use Rattle.xpath_plan.specs.declared.plan_node.Operation.{Operation}
+use Rattle.xpath_plan.specs.declared.plan_node.Separator.{Separator}
+use Rattle.xpath_plan.specs.declared.plan_node.PlanNode.{PlanNode}
+use Rattle.xpath_plan.specs.declared.plan_node.PlanNode.TheVariants as w
+use Rattle.xpath_plan.specs.declared.plan_node.Simple.{Simple}
+use Rattle.xpath_plan.specs.declared.plan_node.Simple.TheVariants as s
+use Rattle.xpath_plan.specs.declared.plan_node.StepTest.TheVariants as t
 use Rattle.xpath_plan.specs.Plans.{seen, made, simple_seen, test_seen}
 use Rattle.xpath_parts.proofs.SeenLemmas.{seen-simple}
-use Rattle.xpath_parts.specs.declared.ground.Ground.{Ground}
+use Rattle.xpath_parts.specs.declared.dynamic.DynamicContext.{DynamicContext}
 use Rattle.xpath_parts.specs.Contexts.{operands_of}
 use Rattle.xpath_walks.specs.Walks.{IsWalkable, IsWalked, axis_numbers, node_numbers}
 use Rattle.xpath_walks.proofs.FilterLemmas.{alike}
@@ -54,12 +54,13 @@ among_kept predicate last position (n ∷ ns) m h =
         (or_cases (m == n) (is_among m (kept_nodes predicate last (suc position) ns)) e)
     go false rest e = or_right (m == n) (is_among m ns) (rest e)
 
-among_kept_all : (base : Ground) (parts : List Operand) (ns : List ℕ) (m : ℕ) → is_among m (kept_by_all base parts ns) ≡ true → is_among m ns ≡ true
+among_kept_all : (base : DynamicContext) (parts : List Operand) (ns : List ℕ) (m : ℕ) → is_among m (kept_by_all base parts ns) ≡ true → is_among m ns ≡ true
 among_kept_all base [] ns m h = h
 among_kept_all base (part ∷ parts) ns m h = among_kept (judged base part.1) (length ns) 1 ns m (among_kept_all base parts (kept_by base part.1 ns) m h)
 
 -- What predicates keep of children of a name are such children.
-pub filter_children : (base : Ground) (work : Work) (kind : Kind) (parts : List (Link × Work)) (first : Link × Work) (others : List (Link × Work)) (name : ℕ)
+pub filter_children : (base : DynamicContext) (work : PlanNode) (kind : Operation) (parts : List (Separator × PlanNode)) (first : Separator
+    × PlanNode) (others : List (Separator × PlanNode)) (name : ℕ)
     → work ≡ w.Node kind parts → parts ≡ first ∷ others → is_filter kind ≡ true → first.1 ≡ w.Simple (s.Step a.Child (t.Named name))
     → GoesToChildren base name (seen base.names.now work)
 filter_children base work kind parts first others name is divided filters step n m h =
@@ -244,12 +245,12 @@ module _ (nodes : List Node) (w : IsWalkable nodes) where
 
 -- ---- as calls have it
 
-pub all_children_found : (base : Ground) (w : IsWalked base.doc.now) (test : Option NodeTest)
+pub all_children_found : (base : DynamicContext) (w : IsWalked base.doc.now) (test : Option NodeTest)
     → axis_numbers (nodes_of base) a.Descendant 0 test ≡ all_found (nodes_of base) base.env.now (step_of a.Child test)
 all_children_found base w None = nothing_found base [] refl
 all_children_found base w (Some test) = elements_found (nodes_of base) w.walkable base.env.now test
 
-all_around_reached : (base : Ground) (w : IsWalked base.doc.now) (test : Option NodeTest) (e : Exp)
+all_around_reached : (base : DynamicContext) (w : IsWalked base.doc.now) (test : Option NodeTest) (e : Exp)
     → ((n m : ℕ) → is_among m (found_at (nodes_of base) base.env.now e n) ≡ true →
     is_among m (found_at (nodes_of base) base.env.now (step_of a.Child test) n) ≡ true)
     → all_reached (nodes_of base) base.env.now e (all_around (nodes_of base) (axis_numbers (nodes_of base) a.Descendant 0 test)) ≡ all_found
@@ -274,7 +275,8 @@ all_around_reached base w None e goes =
         ∙ none_found k ns
 all_around_reached base w (Some test) e goes = around_reached (nodes_of base) w.walkable base.env.now test e goes
 
-pub children_everywhere : (base : Ground) → IsWalked base.doc.now → (name : ℕ) (e : Exp) (named lent from lent' found : List ℕ) → GoesToChildren base name e
+pub children_everywhere : (base : DynamicContext) → IsWalked base.doc.now → (name : ℕ) (e : Exp) (named lent from lent' found : List ℕ)
+    → GoesToChildren base name e
     → named ≡ elements_of base name → lent ≡ named → from ≡ all_around (nodes_of base) lent → lent' ≡ from → Reached base e lent' found →
     FoundByStep base e found
 children_everywhere base w name e named lent from lent' found goes is same around same' r = λ step.
@@ -283,7 +285,7 @@ children_everywhere base w name e named lent from lent' found goes is same aroun
     ∙ all_around_reached base w (test_seen base.names.now (t.Named name)) e goes)
 
 -- a step alone to children of a name
-pub named_marked : (base : Ground) → IsWalked base.doc.now → (work : Work) (simple : Simple) (name : ℕ) (found : List ℕ) → work ≡ w.Simple simple →
+pub named_marked : (base : DynamicContext) → IsWalked base.doc.now → (work : PlanNode) (simple : Simple) (name : ℕ) (found : List ℕ) → work ≡ w.Simple simple →
     simple ≡ s.Step a.Child (t.Named name)
     → found ≡ elements_of base name → Marked base (seen base.names.now work) found
 named_marked base w work simple name found is step e = λ p.

@@ -17,7 +17,7 @@ use Rattle.xpath_meaning.specs.Patterns.{found_at}
 use Rattle.xpath_walks.specs.Walks.{IsWalked, node_numbers, from_on}
 use Rattle.xpath_walks.proofs.AroundLemmas.{inside_inside}
 use Rattle.xpath_walks.proofs.FilterLemmas.{AreCounted, alike}
-use Rattle.xpath_parts.specs.declared.ground.Ground.{Ground}
+use Rattle.xpath_parts.specs.declared.dynamic.DynamicContext.{DynamicContext}
 use Rattle.xpath_parts.specs.Contexts.{count}
 use Rattle.xpath_marks.specs.Found.{is_reached, all_reached}
 use Rattle.xpath_marks.specs.Marking.{AreNodes, GoesBy, GoesIn, nodes_of, is_covered}
@@ -43,7 +43,7 @@ pub next_within : (count n : ℕ) (next : Option ℕ) → SomeIff next (n + 1 < 
 next_within count n None is = tt
 next_within count n (Some m) is = omega (arith, is.0, is.1)
 
-module _ (base : Ground) (w : IsWalked base.doc.now) where
+module _ (base : DynamicContext) (w : IsWalked base.doc.now) where
   abbrev pub inside_at : ℕ → List ℕ
   inside_at n = found_at (nodes_of base) base.env.now all_inside n
 

@@ -14,14 +14,14 @@ use Rattle.xpath_meaning.specs.Expressions as x
 use Rattle.xpath_meaning.specs.Expressions.{Exp, NodeTest}
 use Rattle.xpath_grammar.specs.declared.step.Axis.{Axis}
 use Rattle.xpath_meaning.specs.Resolving.{Operand, all_inside, in_axis_order, chained, chained_on, linked, linked_by, kept_of, step_of}
-use Rattle.xpath_plan.specs.declared.work.Kind.{Kind}
-use Rattle.xpath_plan.specs.declared.work.Kind.TheVariants as kd
-use Rattle.xpath_plan.specs.declared.work.Link.{Link}
-use Rattle.xpath_plan.specs.declared.work.Link.TheVariants as l
-use Rattle.xpath_plan.specs.declared.work.Simple.{Simple}
-use Rattle.xpath_plan.specs.declared.work.Simple.TheVariants as s
-use Rattle.xpath_plan.specs.declared.work.Work.{Work}
-use Rattle.xpath_plan.specs.declared.work.Work.TheVariants as w
+use Rattle.xpath_plan.specs.declared.plan_node.Operation.{Operation}
+use Rattle.xpath_plan.specs.declared.plan_node.Operation.TheVariants as kd
+use Rattle.xpath_plan.specs.declared.plan_node.Separator.{Separator}
+use Rattle.xpath_plan.specs.declared.plan_node.Separator.TheVariants as l
+use Rattle.xpath_plan.specs.declared.plan_node.Simple.{Simple}
+use Rattle.xpath_plan.specs.declared.plan_node.Simple.TheVariants as s
+use Rattle.xpath_plan.specs.declared.plan_node.PlanNode.{PlanNode}
+use Rattle.xpath_plan.specs.declared.plan_node.PlanNode.TheVariants as w
 use Rattle.xpath_plan.specs.Plans.{seen, made, label_of, simple_seen, test_seen}
 use Rattle.xpath_parts.proofs.SeenLemmas.{seen-simple}
 use Rattle.xpath_parts.proofs.NamedLemmas.{chain_is}
@@ -29,7 +29,7 @@ use Rattle.xpath_walks.specs.Walks.{IsWalked, node_numbers}
 use Rattle.xpath_walks.specs.Order.{AreNumbers}
 use Rattle.xpath_walks.proofs.FilterLemmas.{alike}
 use Rattle.xpath_walks.proofs.OrderLemmas.{rising}
-use Rattle.xpath_parts.specs.declared.ground.Ground.{Ground}
+use Rattle.xpath_parts.specs.declared.dynamic.DynamicContext.{DynamicContext}
 use Rattle.xpath_parts.specs.Contexts.{operands_of}
 use Rattle.xpath_parts.specs.Named.{is_chain}
 use Rattle.xpath_parts.specs.Parts.{is_operator}
@@ -58,7 +58,7 @@ among_zero k (n ∷ (m ∷ ns)) h = ap (λ b. is_among k (0 ∷ []) || b) (among
     twice true = refl
     twice false = refl
 
-pub root_found : (base : Ground) → AreNumbers (nodes_of base) (0 ∷ []) → 0 < length (nodes_of base) → (ns : List ℕ) → ns ≡ 0 ∷ [] →
+pub root_found : (base : DynamicContext) → AreNumbers (nodes_of base) (0 ∷ []) → 0 < length (nodes_of base) → (ns : List ℕ) → ns ≡ 0 ∷ [] →
     ns ≡ all_found (nodes_of base) base.env.now x.the_root
 root_found base are some ns e =
     e ∙ (rising (nodes_of base) (0 ∷ []) are refl
@@ -66,7 +66,8 @@ root_found base are some ns e =
     (nodes_of base)
     (λ k a b. sym (among_zero (tree_node (nodes_of base) k).number (nodes_of base) some))))
 
-none_found : (base : Ground) (ns : List Node) → node_numbers (filter (λ (node : Node). is_found (nodes_of base) base.env.now x.nothing node.number) ns) ≡ []
+none_found : (base : DynamicContext) (ns : List Node) → node_numbers (filter (λ (node : Node). is_found (nodes_of base) base.env.now x.nothing node.number)
+    ns) ≡ []
 none_found base [] = refl
 none_found base (n ∷ ns) = rw none_at (none_found base ns)
   where
@@ -77,7 +78,7 @@ none_found base (n ∷ ns) = rw none_at (none_found base ns)
     none_at : is_found (nodes_of base) base.env.now x.nothing n.number ≡ false
     none_at = never_any (nodes_of base)
 
-pub nothing_found : (base : Ground) (ns : List ℕ) → ns ≡ [] → ns ≡ all_found (nodes_of base) base.env.now x.nothing
+pub nothing_found : (base : DynamicContext) (ns : List ℕ) → ns ≡ [] → ns ≡ all_found (nodes_of base) base.env.now x.nothing
 nothing_found base ns e = e ∙ sym (none_found base (nodes_of base))
 
 -- ---- steps alone
@@ -98,13 +99,13 @@ simple_step names (s.Outer name) r p = absurd (false≢true p)
 simple_step names (s.Step axis test) r p = stepped_is axis (test_seen names test) p
 simple_step names (s.Called function) r p = absurd (false≢true p)
 
-pub simple_marked : (base : Ground) (work : Work) (simple : Simple) (found : List ℕ) → work ≡ w.Simple simple → is_root simple ≡ false
+pub simple_marked : (base : DynamicContext) (work : PlanNode) (simple : Simple) (found : List ℕ) → work ≡ w.Simple simple → is_root simple ≡ false
     → FoundByStep base (seen base.names.now work) found → Marked base (seen base.names.now work) found
 simple_marked base work simple found e r f = λ p.
     let is : seen base.names.now work ≡ simple_seen base.names.now simple = ap (seen base.names.now) e ∙ seen-simple base.names.now simple in
     f (ap is_step is ∙ simple_step base.names.now simple r (sym (ap is_pattern is) ∙ p))
 
-pub root_marked : (base : Ground) (work : Work) (simple : Simple) (found : List ℕ) → work ≡ w.Simple simple → is_root simple ≡ true
+pub root_marked : (base : DynamicContext) (work : PlanNode) (simple : Simple) (found : List ℕ) → work ≡ w.Simple simple → is_root simple ≡ true
     → Marked base x.the_root found → Marked base (seen base.names.now work) found
 root_marked base work simple found e r m =
     subst (λ e. Marked base e found) (sym (ap (seen base.names.now) e ∙
@@ -121,7 +122,7 @@ root_marked base work simple found e r m =
     root_is (s.Step axis test) r = absurd (false≢true r)
     root_is (s.Called function) r = absurd (false≢true r)
 
-no_parts_step : (kind : Kind) → is_pattern (made kind []) ≡ true → is_step (made kind []) ≡ true
+no_parts_step : (kind : Operation) → is_pattern (made kind []) ≡ true → is_step (made kind []) ≡ true
 no_parts_step kd.Chain p = refl
 no_parts_step (kd.Bound binder) p = refl
 no_parts_step kd.Conditional p = refl
@@ -141,7 +142,8 @@ kept_pattern : (parts : List Operand) (e : Exp) (part : Operand) →
 kept_pattern [] e part = refl
 kept_pattern (next ∷ parts) e part = kept_pattern parts (x.filtered e part.1) next
 
-other_step : (names : List Name) (kind : Kind) (link : Link) (work : Work) (others : List (Link × Work)) → is_first_part kind link (is_empty others) ≡ false →
+other_step : (names : List Name) (kind : Operation) (link : Separator) (work : PlanNode) (others : List (Separator × PlanNode))
+    → is_first_part kind link (is_empty others) ≡ false →
     is_chain kind ≡ false
     → is_pattern (made kind (operands_of names ((link, work) ∷ others))) ≡ true → is_step (made kind (operands_of names ((link, work) ∷ others))) ≡ true
 other_step names kd.Only link work others h c p = absurd (true≢false h)
@@ -166,13 +168,13 @@ other_step names kd.Nothing link work others h c p = refl
 
 -- ---- what the first part finds
 
-ordered_marked : (base : Ground) (e : Exp) (found : List ℕ) → Marked base e found → Marked base (x.stepped (in_axis_order e)) found
+ordered_marked : (base : DynamicContext) (e : Exp) (found : List ℕ) → Marked base e found → Marked base (x.stepped (in_axis_order e)) found
 ordered_marked base e found m s =
     m (step_pattern e (sym (ordered_step e) ∙ s))
     ∙ (λ j. node_numbers (filter (λ (node : Node). list_any (λ (n : Node). is_among node.number (sym (ordered_found base e n.number) j)) (nodes_of base))
     (nodes_of base)))
 
-first_finds : (base : Ground) (kind : Kind) (link : Link) (work : Work) (others : List (Link × Work)) (found : List ℕ) →
+first_finds : (base : DynamicContext) (kind : Operation) (link : Separator) (work : PlanNode) (others : List (Separator × PlanNode)) (found : List ℕ) →
     is_found_by_first kind link (is_empty others) ≡ true
     → Marked base (seen base.names.now work) found → Marked base (made kind (operands_of base.names.now ((link, work) ∷ others))) found
 first_finds base kd.FilteredStep link work [] found h m = ordered_marked base (seen base.names.now work) found m
@@ -193,7 +195,7 @@ first_finds base (kd.Call function) link work others found h m = absurd (false�
 first_finds base (kd.Matches pattern) link work others found h m = absurd (false≢true h)
 first_finds base kd.Nothing link work others found h m = absurd (false≢true h)
 
-not_first : (kind : Kind) (link : Link) (alone : Bool) → is_found_by_first kind link alone ≡ false → is_first_part kind link alone ≡ false
+not_first : (kind : Operation) (link : Separator) (alone : Bool) → is_found_by_first kind link alone ≡ false → is_first_part kind link alone ≡ false
 not_first kd.FilteredStep link alone h = refl
 not_first kd.FreeStep link alone h = refl
 not_first kd.Only link alone h = h
@@ -210,7 +212,8 @@ not_first kd.Nothing link alone h = h
 
 -- ---- works with parts
 
-module _ (base : Ground) (work : Work) (kind : Kind) (parts : List (Link × Work)) (is : work ≡ w.Node kind parts) (found : List ℕ) where
+module _ (base : DynamicContext) (work : PlanNode) (kind : Operation) (parts : List (Separator × PlanNode)) (is : work
+    ≡ w.Node kind parts) (found : List ℕ) where
   node_is : seen base.names.now work ≡ made kind (operands_of base.names.now parts)
   node_is = ap (seen base.names.now) is ∙ node_seen base.names.now kind parts
 
@@ -219,7 +222,7 @@ module _ (base : Ground) (work : Work) (kind : Kind) (parts : List (Link × Work
       let e : seen base.names.now work ≡ made kind [] = node_is ∙ ap (λ ps. made kind (operands_of base.names.now ps)) none in
       f (ap is_step e ∙ no_parts_step kind (sym (ap is_pattern e) ∙ p))
 
-  module _ (first : Link × Work) (others : List (Link × Work)) (divided : parts ≡ first ∷ others) where
+  module _ (first : Separator × PlanNode) (others : List (Separator × PlanNode)) (divided : parts ≡ first ∷ others) where
     divided_is : seen base.names.now work ≡ made kind (operands_of base.names.now (first ∷ others))
     divided_is = node_is ∙ ap (λ ps. made kind (operands_of base.names.now ps)) divided
 
@@ -238,21 +241,21 @@ module _ (base : Ground) (work : Work) (kind : Kind) (parts : List (Link × Work
 
 -- ---- chains
 
-pub from_root : (base : Ground) (part : Link × Work) (others : List (Link × Work)) → is_operator (label_of part.0) ≡ true
+pub from_root : (base : DynamicContext) (part : Separator × PlanNode) (others : List (Separator × PlanNode)) → is_operator (label_of part.0) ≡ true
     → chained (operands_of base.names.now (part ∷ others)) ≡ chained_on x.the_root (operands_of base.names.now (part ∷ others))
 from_root base part others h = go part.0 part.1 h
   where
-    go : (link : Link) (work : Work) → is_operator (label_of link) ≡ true
+    go : (link : Separator) (work : PlanNode) → is_operator (label_of link) ≡ true
         → chained (operands_of base.names.now ((link, work) ∷ others)) ≡ chained_on x.the_root (operands_of base.names.now ((link, work) ∷ others))
     go (l.Operator operator) work h = refl
     go l.Comma work h = absurd (false≢true h)
     go l.Other work h = absurd (false≢true h)
 
-pub from_first : (base : Ground) (part : Link × Work) (others : List (Link × Work)) → is_operator (label_of part.0) ≡ false
+pub from_first : (base : DynamicContext) (part : Separator × PlanNode) (others : List (Separator × PlanNode)) → is_operator (label_of part.0) ≡ false
     → chained (operands_of base.names.now (part ∷ others)) ≡ chained_on (seen base.names.now part.1) (operands_of base.names.now others)
 from_first base part others h = go part.0 part.1 h
   where
-    go : (link : Link) (work : Work) → is_operator (label_of link) ≡ false
+    go : (link : Separator) (work : PlanNode) → is_operator (label_of link) ≡ false
         → chained (operands_of base.names.now ((link, work) ∷ others)) ≡ chained_on (seen base.names.now work) (operands_of base.names.now others)
     go (l.Operator operator) work h = absurd (true≢false h)
     go l.Comma work h = refl
@@ -262,7 +265,8 @@ chained_on-append : (e : Exp) (parts : List Operand) (part : Operand) → chaine
 chained_on-append e [] part = refl
 chained_on-append e (first ∷ parts) part = chained_on-append (linked e first.0 first.1) parts part
 
-pub chain_more : (base : Ground) (parts : List (Link × Work)) (i : ℕ) (part : Link × Work) (e : Exp) → part ≡ get_or parts i part → i < length parts
+pub chain_more : (base : DynamicContext) (parts : List (Separator × PlanNode)) (i : ℕ) (part : Separator × PlanNode) (e : Exp) → part ≡ get_or parts i part
+    → i < length parts
     → chained_on e (operands_of base.names.now (take (i + 1) parts)) ≡ linked (chained_on e (operands_of base.names.now (take i parts))) (label_of part.0)
     (seen base.names.now part.1)
 chain_more base parts i part e is h =
@@ -353,13 +357,13 @@ other_linked o.Cast e f h s = absurd (false≢true s)
 other_linked o.Castable e f h s = absurd (false≢true s)
 other_linked o.As e f h s = absurd (false≢true s)
 
-pub otherwise_marked : (base : Ground) (link : Link) (e f : Exp) (found : List ℕ) → j.Otherwise ≡ joining_of link → found ≡ [] →
+pub otherwise_marked : (base : DynamicContext) (link : Separator) (e f : Exp) (found : List ℕ) → j.Otherwise ≡ joining_of link → found ≡ [] →
     Marked base (linked e (label_of link) f) found
 otherwise_marked base (l.Operator operator) e f found h none p = absurd (other_linked operator e f (sym h) p)
 otherwise_marked base l.Comma e f found h none p = absurd (false≢true p)
 otherwise_marked base l.Other e f found h none p = nothing_found base found none
 
-joined : (link : Link) (joining : Joining) → joining ≡ joining_of link → (joining ≡ j.Otherwise) ⊎ (link ≡ l.Operator (op_of joining))
+joined : (link : Separator) (joining : Joining) → joining ≡ joining_of link → (joining ≡ j.Otherwise) ⊎ (link ≡ l.Operator (op_of joining))
 joined (l.Operator operator) joining h = ⊎_elim
     (λ (none : joined_by operator ≡ j.Otherwise). inl (h ∙ none))
     (λ (is : operator ≡ op_of (joined_by operator)). inr (ap l.Operator (is ∙ ap op_of (sym h))))
@@ -367,7 +371,7 @@ joined (l.Operator operator) joining h = ⊎_elim
 joined l.Comma joining h = inl h
 joined l.Other joining h = inl h
 
-module _ (base : Ground) (w : IsWalked base.doc.now) (link : Link) (e f : Exp) (before found : List ℕ) (m : Marked base e before) where
+module _ (base : DynamicContext) (w : IsWalked base.doc.now) (link : Separator) (e f : Exp) (before found : List ℕ) (m : Marked base e before) where
   pub below_marked : j.Below ≡ joining_of link → Reached base f before found → Marked base (linked e (label_of link) f) found
   unfolding op_of
   below_marked h r = ⊎_elim (λ (no : j.Below ≡ j.Otherwise). cc)
@@ -405,7 +409,7 @@ pub along_ok : {X E : Type 0} (r : Result X E) (P Q : X → Type 0) → ((x : X)
 along_ok (Ok x) P Q f p = f x p
 along_ok (Err e) P Q f p = tt
 
-pub step_everywhere : (base : Ground) → IsWalked base.doc.now → (e : Exp) (all lent found : List ℕ) → all ≡ node_numbers (nodes_of base) → lent ≡ all →
+pub step_everywhere : (base : DynamicContext) → IsWalked base.doc.now → (e : Exp) (all lent found : List ℕ) → all ≡ node_numbers (nodes_of base) → lent ≡ all →
     Reached base e lent found → FoundByStep base e found
 step_everywhere base w e all lent found every same r = λ s.
     r s ∙ (ap (all_reached (nodes_of base) base.env.now e) (same ∙ every) ∙ step_found (nodes_of base) w.walkable base.env.now e)

@@ -20,14 +20,14 @@ use Rattle.xpath_meaning.specs.Patterns.{found_at, kept_nodes, is_kept, with_num
 use Rattle.xpath_meaning.specs.Steps.{keeps}
 use Rattle.xpath_meaning.specs.Values.{Value, then_}
 use Rattle.xpath_operators.specs.Nodes.{AreWithin}
-use Rattle.xpath_plan.specs.declared.work.Kind.{Kind}
-use Rattle.xpath_plan.specs.declared.work.Kind.TheVariants as kd
-use Rattle.xpath_plan.specs.declared.work.Link.{Link}
-use Rattle.xpath_plan.specs.declared.work.Link.TheVariants as l
-use Rattle.xpath_plan.specs.declared.work.Work.{Work}
-use Rattle.xpath_plan.specs.declared.work.Work.TheVariants as w
+use Rattle.xpath_plan.specs.declared.plan_node.Operation.{Operation}
+use Rattle.xpath_plan.specs.declared.plan_node.Operation.TheVariants as kd
+use Rattle.xpath_plan.specs.declared.plan_node.Separator.{Separator}
+use Rattle.xpath_plan.specs.declared.plan_node.Separator.TheVariants as l
+use Rattle.xpath_plan.specs.declared.plan_node.PlanNode.{PlanNode}
+use Rattle.xpath_plan.specs.declared.plan_node.PlanNode.TheVariants as w
 use Rattle.xpath_plan.specs.Plans.{seen, made, label_of}
-use Rattle.xpath_parts.specs.declared.ground.Ground.{Ground}
+use Rattle.xpath_parts.specs.declared.dynamic.DynamicContext.{DynamicContext}
 use Rattle.xpath_parts.specs.Contexts.{count, operands_of}
 use Rattle.xpath_parts.proofs.SeenLemmas.{seen-node}
 use Rattle.xpath_steps.proofs.WithinLemmas.{append_within, below_within, filter_below}
@@ -38,18 +38,20 @@ use Rattle.xpath_walks.specs.Walks.{IsWalked, axis_numbers, if_so, node_numbers}
 use Rattle.xpath_marks.specs.Shapes.{is_step}
 use Rattle.xpath_marks.specs.Marking.{AreNodes, Turned, Filtered, nodes_of, kept_by, kept_by_all, is_first_part, is_filter}
 
-pub node_seen : (names : List Name) (kind : Kind) (parts : List (Link × Work)) → seen names (w.Node kind parts) ≡ made kind (operands_of names parts)
+pub node_seen : (names : List Name) (kind : Operation) (parts : List (Separator × PlanNode)) → seen names (w.Node kind parts)
+    ≡ made kind (operands_of names parts)
 node_seen names kind parts = seen-node names kind parts
 
-pub nodes_append : (base : Ground) (ns ms : List ℕ) → AreNodes base ns → AreNodes base ms → AreNodes base (ns ++ ms)
+pub nodes_append : (base : DynamicContext) (ns ms : List ℕ) → AreNodes base ns → AreNodes base ms → AreNodes base (ns ++ ms)
 nodes_append base ns ms h k =
     subst (AreWithin (count base)) (sym (map-append (λ (n : ℕ). i.Node n) ns ms)) (append_within (count base) (node_items ns) (node_items ms) h k)
 
-pub axis_nodes_within : (base : Ground) (w : IsWalked base.doc.now) (axis : Axis) (test : Option NodeTest) (n : ℕ) →
+pub axis_nodes_within : (base : DynamicContext) (w : IsWalked base.doc.now) (axis : Axis) (test : Option NodeTest) (n : ℕ) →
     AreNodes base (axis_numbers (nodes_of base) axis n test)
 axis_nodes_within base w axis test n = axis_within (count base) (nodes_of base) axis test n (document_below base.doc.now w)
 
-pub added_within : {X E : Type 0} (base : Ground) (w : IsWalked base.doc.now) (axis : Axis) (test : Option NodeTest) (n : ℕ) (r : Result X E) (old new : List ℕ)
+pub added_within : {X E : Type 0} (base : DynamicContext) (w : IsWalked base.doc.now) (axis : Axis) (test : Option NodeTest) (n : ℕ) (r : Result X E) (old new
+    : List ℕ)
     → AreNodes base old → OnOk r (new ≡ old ++ axis_numbers (nodes_of base) axis n test) → OnOk r (AreNodes base new)
 added_within base w axis test n (Ok x) old new h e = subst (AreNodes base) (sym e)
     (nodes_append base old (axis_numbers (nodes_of base) axis n test) h (axis_nodes_within base w axis test n))
@@ -110,13 +112,13 @@ chain_no_step : (e : Exp) (part : Operand) (parts : List Operand) → is_step (c
 chain_no_step e part [] s = linked_no_step part.0 e part.1 s
 chain_no_step e part (next ∷ parts) s = chain_no_step (linked e part.0 part.1) next parts s
 
-nothing_turned : (base : Ground) (e : Exp) (n : ℕ) (old new : List ℕ) → (is_step e ≡ true → e ≡ x.nothing) → new ≡ old → Turned base e n old new
+nothing_turned : (base : DynamicContext) (e : Exp) (n : ℕ) (old new : List ℕ) → (is_step e ≡ true → e ≡ x.nothing) → new ≡ old → Turned base e n old new
 nothing_turned base e n old new f same s =
     same ∙ (sym (append-nil old) ∙ ap (λ e. old ++ found_at (nodes_of base) base.env.now e n) (sym (f s)))
 
 -- ---- what kinds make of their parts
 
-no_parts : (kind : Kind) → is_step (made kind []) ≡ true → made kind [] ≡ x.nothing
+no_parts : (kind : Operation) → is_step (made kind []) ≡ true → made kind [] ≡ x.nothing
 no_parts kd.Chain s = refl
 no_parts (kd.Bound binder) s = refl
 no_parts kd.Conditional s = refl
@@ -131,11 +133,11 @@ no_parts (kd.Call function) s = absurd (false≢true s)
 no_parts (kd.Matches pattern) s = absurd (false≢true s)
 no_parts kd.Nothing s = refl
 
-pub none_turned : (base : Ground) (kind : Kind) (n : ℕ) (old new : List ℕ) → new ≡ old → Turned base (made kind []) n old new
+pub none_turned : (base : DynamicContext) (kind : Operation) (n : ℕ) (old new : List ℕ) → new ≡ old → Turned base (made kind []) n old new
 none_turned base kind n old new same = nothing_turned base (made kind []) n old new (no_parts kind) same
 
 -- the first part itself
-pub first_part_is : (names : List Name) (kind : Kind) (link : Link) (work : Work) (others : List (Link × Work)) →
+pub first_part_is : (names : List Name) (kind : Operation) (link : Separator) (work : PlanNode) (others : List (Separator × PlanNode)) →
     is_first_part kind link (is_empty others) ≡ true
     → made kind (operands_of names ((link, work) ∷ others)) ≡ seen names work
 first_part_is names kd.Only link work others h = refl
@@ -158,7 +160,8 @@ first_part_is names (kd.Matches pattern) link work others h = absurd (false≢tr
 first_part_is names kd.Nothing link work others h = absurd (false≢true h)
 
 -- neither that nor filtered: no step but nothing
-pub no_step : (names : List Name) (kind : Kind) (link : Link) (work : Work) (others : List (Link × Work)) → is_first_part kind link (is_empty others) ≡ false →
+pub no_step : (names : List Name) (kind : Operation) (link : Separator) (work : PlanNode) (others : List (Separator × PlanNode))
+    → is_first_part kind link (is_empty others) ≡ false →
     is_filter kind ≡ false
     → is_step (made kind (operands_of names ((link, work) ∷ others))) ≡ true → made kind (operands_of names ((link, work) ∷ others)) ≡ x.nothing
 no_step names kd.Only link work others h f s = absurd (true≢false h)
@@ -183,13 +186,13 @@ no_step names (kd.Call function) link work others h f s = absurd (false≢true s
 no_step names (kd.Matches pattern) link work others h f s = absurd (false≢true s)
 no_step names kd.Nothing link work others h f s = refl
 
-pub other_turned : (base : Ground) (kind : Kind) (part : Link × Work) (others : List (Link × Work)) (n : ℕ) (old new : List ℕ)
+pub other_turned : (base : DynamicContext) (kind : Operation) (part : Separator × PlanNode) (others : List (Separator × PlanNode)) (n : ℕ) (old new : List ℕ)
     → is_first_part kind part.0 (is_empty others) ≡ false → is_filter kind ≡ false → new ≡ old
     → Turned base (made kind (operands_of base.names.now (part ∷ others))) n old new
 other_turned base kind part others n old new h f same =
     nothing_turned base (made kind (operands_of base.names.now (part ∷ others))) n old new (no_step base.names.now kind part.0 part.1 others h f) same
 
-pub first_turned : (base : Ground) (kind : Kind) (part : Link × Work) (others : List (Link × Work)) (n : ℕ) (old new : List ℕ)
+pub first_turned : (base : DynamicContext) (kind : Operation) (part : Separator × PlanNode) (others : List (Separator × PlanNode)) (n : ℕ) (old new : List ℕ)
     → is_first_part kind part.0 (is_empty others) ≡ true → Turned base (seen base.names.now part.1) n old new
     → Turned base (made kind (operands_of base.names.now (part ∷ others))) n old new
 first_turned base kind part others n old new h t =
@@ -197,7 +200,8 @@ first_turned base kind part others n old new h t =
 
 -- ---- predicates
 
-pub ordered_found : (base : Ground) (e : Exp) (n : ℕ) → found_at (nodes_of base) base.env.now (in_axis_order e) n ≡ found_at (nodes_of base) base.env.now e n
+pub ordered_found : (base : DynamicContext) (e : Exp) (n : ℕ) → found_at (nodes_of base) base.env.now (in_axis_order e) n
+    ≡ found_at (nodes_of base) base.env.now e n
 ordered_found base (x.text t) n = refl
 ordered_found base (x.number z) n = refl
 ordered_found base x.nothing n = refl
@@ -245,13 +249,14 @@ kept_step_is : (parts : List Operand) (e : Exp) → is_step (kept_of e parts) �
 kept_step_is [] e = refl
 kept_step_is (part ∷ parts) e = kept_step_is parts (x.filtered e part.1)
 
-kept_found : (base : Ground) (parts : List Operand) (e : Exp) (n : ℕ) → found_at (nodes_of base) base.env.now (kept_of e parts) n ≡ kept_by_all base parts
+kept_found : (base : DynamicContext) (parts : List Operand) (e : Exp) (n : ℕ) → found_at (nodes_of base) base.env.now (kept_of e parts) n
+    ≡ kept_by_all base parts
     (found_at (nodes_of base) base.env.now e n)
 kept_found base [] e n = refl
 kept_found base (part ∷ parts) e n = kept_found base parts (x.filtered e part.1) n
 
 -- what the first part finds at a node and the others keep
-pub filter_found : (base : Ground) (kind : Kind) (link : Link) (e : Exp) (predicates : List Operand) (n : ℕ) → is_filter kind ≡ true
+pub filter_found : (base : DynamicContext) (kind : Operation) (link : Separator) (e : Exp) (predicates : List Operand) (n : ℕ) → is_filter kind ≡ true
     → found_at (nodes_of base) base.env.now (made kind ((label_of link, e) ∷ predicates)) n ≡ kept_by_all base predicates
     (found_at (nodes_of base) base.env.now e n)
 filter_found base kd.FilteredStep link e predicates n h = kept_found base predicates (in_axis_order e) n ∙
@@ -269,7 +274,8 @@ filter_found base (kd.Call function) link e predicates n h = absurd (false≢tru
 filter_found base (kd.Matches pattern) link e predicates n h = absurd (false≢true h)
 filter_found base kd.Nothing link e predicates n h = absurd (false≢true h)
 
-filter_turned : (base : Ground) (kind : Kind) (link : Link) (e : Exp) (predicates : List Operand) (n : ℕ) (old new : List ℕ) → is_filter kind ≡ true →
+filter_turned : (base : DynamicContext) (kind : Operation) (link : Separator) (e : Exp) (predicates : List Operand) (n : ℕ) (old new : List ℕ)
+    → is_filter kind ≡ true →
     Filtered base e predicates n old new
     → Turned base (made kind ((label_of link, e) ∷ predicates)) n old new
 filter_turned base kd.FilteredStep link e predicates n old new h f s =
@@ -290,7 +296,8 @@ filter_turned base (kd.Call function) link e predicates n old new h f s = absurd
 filter_turned base (kd.Matches pattern) link e predicates n old new h f s = absurd (false≢true h)
 filter_turned base kd.Nothing link e predicates n old new h f s = absurd (false≢true h)
 
-pub filters_turned : (base : Ground) (kind : Kind) (part : Link × Work) (others : List (Link × Work)) (n : ℕ) (old new : List ℕ) → is_filter kind ≡ true
+pub filters_turned : (base : DynamicContext) (kind : Operation) (part : Separator × PlanNode) (others : List (Separator
+    × PlanNode)) (n : ℕ) (old new : List ℕ) → is_filter kind ≡ true
     → Filtered base (seen base.names.now part.1) (operands_of base.names.now others) n old new
     → Turned base (made kind (operands_of base.names.now (part ∷ others))) n old new
 filters_turned base kind part others n old new h f = filter_turned base kind part.0 (seen base.names.now part.1)
@@ -304,12 +311,12 @@ pub alone_is : {X : Type 0} (xs : List X) → is_empty xs ≡ (length xs == 0)
 alone_is [] = refl
 alone_is (x ∷ xs) = sym (ne_eqb (length (x ∷ xs)) 0 (λ e. omega (arith, e)))
 
-at_place : (base : Ground) (ns : List ℕ) (k d : ℕ) → AreNodes base ns → k < length ns → get_or ns k d < count base
+at_place : (base : DynamicContext) (ns : List ℕ) (k d : ℕ) → AreNodes base ns → k < length ns → get_or ns k d < count base
 at_place base [] k d h l = absurd (omega (arith, l))
 at_place base (n ∷ ns) zero d h l = h.0
 at_place base (n ∷ ns) (suc k) d h l = at_place base ns k d h.1 (omega (arith, l))
 
-pub item_within : (base : Ground) (ns : List ℕ) (k n : ℕ) {lent : List ℕ} → n ≡ get_or lent k n → lent ≡ ns → AreNodes base ns → k < length lent →
+pub item_within : (base : DynamicContext) (ns : List ℕ) (k n : ℕ) {lent : List ℕ} → n ≡ get_or lent k n → lent ≡ ns → AreNodes base ns → k < length lent →
     n < count base
 item_within base ns k n {lent} e same h l =
     subst (λ m. m < count base) (sym e) (subst (λ xs. get_or xs k n < count base) (sym same) (at_place base ns k n h (subst (λ xs. k < length xs) same l)))
@@ -320,7 +327,7 @@ with_is : (b : Bool) (n : ℕ) (ns : List ℕ) → with_number b n ns ≡ if_so 
 with_is true n ns = refl
 with_is false n ns = refl
 
-pub put_within : (base : Ground) (b : Bool) (n : ℕ) (old new : List ℕ) → AreNodes base old → n < count base → new ≡ old ++ if_so b n → AreNodes base new
+pub put_within : (base : DynamicContext) (b : Bool) (n : ℕ) (old new : List ℕ) → AreNodes base old → n < count base → new ≡ old ++ if_so b n → AreNodes base new
 put_within base b n old new h l e = subst (AreNodes base) (sym e) (nodes_append base old (if_so b n) h (one b))
   where
     one : (b : Bool) → AreNodes base (if_so b n)
@@ -341,7 +348,8 @@ kept_next judge k ns n old new b e l is put h =
     ∙ ap (λ p. with_number (is_kept (then_ (judge n (k + 1) (length ns)) (keeps (k + 1)))) n (kept_nodes judge (length ns) p (drop (k + 1) ns))) (sym next))
     ∙ (ap (λ xs. old ++ kept_nodes judge (length ns) (k + 1) xs) (sym here) ∙ h)))
 
-pub all_next : (base : Ground) (parts : List (Link × Work)) (k : ℕ) (part : Link × Work) (ns ns' : List ℕ) {whole : List ℕ} → part ≡ get_or parts k part →
+pub all_next : (base : DynamicContext) (parts : List (Separator × PlanNode)) (k : ℕ) (part : Separator × PlanNode) (ns ns' : List ℕ) {whole : List ℕ} → part
+    ≡ get_or parts k part →
     k < length parts
     → ns' ≡ kept_by base (seen base.names.now part.1) ns
     → kept_by_all base (operands_of base.names.now (drop k parts)) ns ≡ whole → kept_by_all base (operands_of base.names.now (drop (k + 1) parts)) ns' ≡ whole
@@ -350,14 +358,14 @@ all_next base parts k part ns ns' e l is h =
     ap (kept_by_all base (operands_of base.names.now (drop (k + 1) parts))) is
     ∙ (ap (λ ps. kept_by_all base (operands_of base.names.now ps) ns) (sym here) ∙ h)
 
-pub all_done : (base : Ground) (parts : List (Link × Work)) (k : ℕ) (ns : List ℕ) {whole : List ℕ} → length parts ≤ k
+pub all_done : (base : DynamicContext) (parts : List (Separator × PlanNode)) (k : ℕ) (ns : List ℕ) {whole : List ℕ} → length parts ≤ k
     → kept_by_all base (operands_of base.names.now (drop k parts)) ns ≡ whole → ns ≡ whole
 all_done base parts k ns l h = ap (λ ps. kept_by_all base (operands_of base.names.now ps) ns) (sym (drop_all k parts l)) ∙ h
 
 pub flat_done : (f : ℕ → List ℕ) (xs : List ℕ) (k : ℕ) (old : List ℕ) {whole : List ℕ} → length xs ≤ k → old ++ flat_map f (drop k xs) ≡ whole → old ≡ whole
 flat_done f xs k old l h = sym (append-nil old) ∙ (ap (λ ys. old ++ flat_map f ys) (sym (drop_all k xs l)) ∙ h)
 
-pub ordered_within : (base : Ground) → IsWalked base.doc.now → (q : Node → Bool) → AreNodes base (node_numbers (filter q (nodes_of base)))
+pub ordered_within : (base : DynamicContext) → IsWalked base.doc.now → (q : Node → Bool) → AreNodes base (node_numbers (filter q (nodes_of base)))
 ordered_within base w q =
     subst (AreWithin (count base)) (sym (items_of_numbers (filter q (nodes_of base))))
     (below_within (count base) (filter q (nodes_of base)) (filter_below (count base) q (nodes_of base) (document_below base.doc.now w)))

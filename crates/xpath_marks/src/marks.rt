@@ -17,7 +17,7 @@ use node_arena::{Doc, NodeId};
 use std::alloc::{AllocError, Global};
 use std::marker::Model;
 use std::sync::ledger::Ledger;
-use xpath_parts::{Ground, Slots};
+use xpath_parts::{DynamicContext, Slots};
 use xpath_plan::Plan;
 use xpath_run::Env;
 use xpath_walks::{documents_are_walkable, numbers_in};
@@ -106,7 +106,7 @@ fn marks_over<'a, L: Ledger>(
     plan.parts_are_sound();
     let numbers = numbers_in(alloc, doc, plan.names())?;
     let mut slots = Slots::new(alloc, plan.slots())?;
-    let ground = Ground {
+    let dynamic = DynamicContext {
         alloc,
         doc,
         plan,
@@ -114,6 +114,6 @@ fn marks_over<'a, L: Ledger>(
         numbers: numbers.as_slice(),
         env,
     };
-    let nodes = found(&ground, plan.work(), &mut slots, steps)?;
+    let nodes = found(&dynamic, plan.work(), &mut slots, steps)?;
     Ok(Marks { nodes })
 }

@@ -15,8 +15,8 @@ use node_arena::NodeId;
 use std::alloc::AllocError;
 use std::sync::ledger::Ledger;
 use xpath_items::{DynError, Fault, Focus, Item};
-use xpath_parts::{Ground, Slots};
-use xpath_plan::work::{Link, Work};
+use xpath_parts::{DynamicContext, Slots};
+use xpath_plan::plan_node::{PlanNode, Separator};
 use xpath_run::evaluate;
 use xpath_steps::keeps;
 
@@ -32,29 +32,29 @@ fn is_kept(answer: Result<bool, DynError>) -> bool
 
 /// Whether the predicate keeps the node, which is the one at that position of so many.
 fn holds<'a, L: Ledger>(
-    ground: &Ground<'_, 'a>,
-    predicate: &'a Work,
+    dynamic: &DynamicContext<'_, 'a>,
+    predicate: &'a PlanNode,
     n: NodeId,
     position: u64,
     last: u64,
     slots: &mut Slots<'a>,
     steps: &mut Steps<L>,
 ) -> Result<bool, AllocError>
-    requires ready { IsReadyFor ground.now [] }
-    requires within { n < count ground.now }
-    requires placed { PlacedWork ground.now predicate.now }
-    requires slots { AreHeld ground.now slots.old }
+    requires ready { IsReadyFor dynamic.now [] }
+    requires within { n < count dynamic.now }
+    requires placed { PlacedWork dynamic.now predicate.now }
+    requires slots { AreHeld dynamic.now slots.old }
     ensures kept { IfOk result (λ kept. kept ≡ patterns.is_kept
-        (then_ (spec.judged ground.now (seen ground.now.names.now predicate.now) n position last) (meaning.keeps position))) }
-    ensures held { AreHeld ground.now slots.new }
+        (then_ (spec.judged dynamic.now (seen dynamic.now.names.now predicate.now) n position last) (meaning.keeps position))) }
+    ensures held { AreHeld dynamic.now slots.new }
 {
     let focus = Focus {
         item: Item::Node(n),
         position,
         last,
     };
-    let mut bound = Vec::new(ground.alloc);
-    match evaluate(ground, predicate, &focus, &mut bound, slots, steps) {
+    let mut bound = Vec::new(dynamic.alloc);
+    match evaluate(dynamic, predicate, &focus, &mut bound, slots, steps) {
         Ok(value) => Ok(is_kept(keeps(position, &value))),
         Err(Fault::Memory) => Err(AllocError),
         Err(Fault::Error(_)) => Ok(false),
@@ -73,24 +73,24 @@ fn put_if(is_kept: bool, n: NodeId, kept: &mut Vec<NodeId>) -> Result<(), AllocE
 
 /// The nodes that the predicate keeps. They are gone through in this order.
 fn kept_by<'a, L: Ledger>(
-    ground: &Ground<'_, 'a>,
-    predicate: &'a Work,
+    dynamic: &DynamicContext<'_, 'a>,
+    predicate: &'a PlanNode,
     nodes: Vec<NodeId>,
     slots: &mut Slots<'a>,
     steps: &mut Steps<L>,
 ) -> Result<Vec<NodeId>, AllocError>
-    requires ready { IsReadyFor ground.now [] }
-    requires within { AreNodes ground.now nodes.items }
-    requires placed { PlacedWork ground.now predicate.now }
-    requires slots { AreHeld ground.now slots.old }
-    ensures kept { IfOk result (λ kept. kept.items ≡ spec.kept_by ground.now (seen ground.now.names.now predicate.now) nodes.items) }
-    ensures within { IfOk result (λ kept. AreNodes ground.now kept.items) }
-    ensures held { AreHeld ground.now slots.new }
+    requires ready { IsReadyFor dynamic.now [] }
+    requires within { AreNodes dynamic.now nodes.items }
+    requires placed { PlacedWork dynamic.now predicate.now }
+    requires slots { AreHeld dynamic.now slots.old }
+    ensures kept { IfOk result (λ kept. kept.items ≡ spec.kept_by dynamic.now (seen dynamic.now.names.now predicate.now) nodes.items) }
+    ensures within { IfOk result (λ kept. AreNodes dynamic.now kept.items) }
+    ensures held { AreHeld dynamic.now slots.new }
 {
     let last = nodes.len() as u64;
-    let mut kept = Vec::new(ground.alloc);
+    let mut kept = Vec::new(dynamic.alloc);
     'nodes: for (k, n) in nodes.iter().enumerate() {
-        let is_kept = holds(ground, predicate, *n, k as u64 + 1, last, slots, steps)?;
+        let is_kept = holds(dynamic, predicate, *n, k as u64 + 1, last, slots, steps)?;
         put_if(is_kept, *n, &mut kept)?;
     }
     Ok(kept)
@@ -98,23 +98,23 @@ fn kept_by<'a, L: Ledger>(
 
 /// The nodes that all predicates keep, each given what the one before it kept.
 pub(crate) fn kept_by_all<'a, L: Ledger>(
-    ground: &Ground<'_, 'a>,
-    predicates: &'a [(Link, Work)],
+    dynamic: &DynamicContext<'_, 'a>,
+    predicates: &'a [(Separator, PlanNode)],
     nodes: Vec<NodeId>,
     slots: &mut Slots<'a>,
     steps: &mut Steps<L>,
 ) -> Result<Vec<NodeId>, AllocError>
-    requires ready { IsReadyFor ground.now [] }
-    requires within { AreNodes ground.now nodes.items }
-    requires placed { PlacedParts ground.now predicates.now }
-    requires slots { AreHeld ground.now slots.old }
-    ensures kept { IfOk result (λ kept. kept.items ≡ spec.kept_by_all ground.now (operands_of ground.now.names.now predicates.now) nodes.items) }
-    ensures within { IfOk result (λ kept. AreNodes ground.now kept.items) }
-    ensures held { AreHeld ground.now slots.new }
+    requires ready { IsReadyFor dynamic.now [] }
+    requires within { AreNodes dynamic.now nodes.items }
+    requires placed { PlacedParts dynamic.now predicates.now }
+    requires slots { AreHeld dynamic.now slots.old }
+    ensures kept { IfOk result (λ kept. kept.items ≡ spec.kept_by_all dynamic.now (operands_of dynamic.now.names.now predicates.now) nodes.items) }
+    ensures within { IfOk result (λ kept. AreNodes dynamic.now kept.items) }
+    ensures held { AreHeld dynamic.now slots.new }
 {
     let mut nodes = nodes;
     'predicates: for predicate in predicates {
-        nodes = kept_by(ground, &predicate.1, nodes, slots, steps)?;
+        nodes = kept_by(dynamic, &predicate.1, nodes, slots, steps)?;
     }
     Ok(nodes)
 }

@@ -13,10 +13,10 @@ use Rattle.xpath_meaning.specs.Expressions as e
 use Rattle.xpath_meaning.specs.Expressions.{Exp, NodeTest}
 use Rattle.xpath_meaning.specs.Resolving.{Operand, all_inside, linked, linked_by, chained_on, kept_of, step_of}
 use Rattle.xpath_meaning.specs.Meaning.{Context, mean, truth_of}
-use Rattle.xpath_plan.specs.declared.work.Link.{Link}
-use Rattle.xpath_plan.specs.declared.work.Link.TheVariants as l
-use Rattle.xpath_plan.specs.declared.work.StepTest.{StepTest}
-use Rattle.xpath_plan.specs.declared.work.Work.{Work}
+use Rattle.xpath_plan.specs.declared.plan_node.Separator.{Separator}
+use Rattle.xpath_plan.specs.declared.plan_node.Separator.TheVariants as l
+use Rattle.xpath_plan.specs.declared.plan_node.StepTest.{StepTest}
+use Rattle.xpath_plan.specs.declared.plan_node.PlanNode.{PlanNode}
 use Rattle.xpath_plan.specs.Plans.{label_of, seen, test_seen}
 use Rattle.xpath_parts.specs.Contexts.{operands_of}
 use Rattle.xpath_parts.specs.Links.{turn, behind, linked_value, inside_value, IsInside, chain_value, kept_by_all, linked_parts}
@@ -38,13 +38,14 @@ by-operator nodes o.And x y c = both-then (mean nodes x c) (λ holds. elim holds
 by-operator nodes o.Or x y c = both-then (mean nodes x c) (λ holds. elim holds [ true ↦ boolean (Ok true) | false ↦ boolean (truth_of (mean nodes y c)) ])
 by-operator nodes operator x y c = refl
 
-by-link : (nodes : List Node) (link : Link) (x y : Exp) (c : Context) → mean nodes (linked x (label_of link) y) c ≡ linked_value nodes link (mean nodes x c) y c
+by-link : (nodes : List Node) (link : Separator) (x y : Exp) (c : Context) → mean nodes (linked x (label_of link) y) c
+    ≡ linked_value nodes link (mean nodes x c) y c
 by-link nodes (l.Operator operator) x y c = by-operator nodes operator x y c
 by-link nodes l.Comma x y c = refl
 by-link nodes l.Other x y c = refl
 
 -- a chain behind an expression
-pub by-chain : (nodes : List Node) (names : List Name) (parts : List (Link × Work)) (x : Exp) (c : Context)
+pub by-chain : (nodes : List Node) (names : List Name) (parts : List (Separator × PlanNode)) (x : Exp) (c : Context)
     → mean nodes (chained_on x (operands_of names parts)) c ≡ chain_value nodes (linked_parts names parts) (mean nodes x c) c
 by-chain nodes names [] x c = refl
 by-chain nodes names (part ∷ parts) x c = by-chain nodes names parts (linked x (label_of part.0) (seen names part.1)) c
@@ -72,13 +73,13 @@ step-inside : (nodes : List Node) (test : Option NodeTest) (before : Value) (c :
 step-inside nodes None before c = refl
 step-inside nodes (Some test) before c = refl
 
-inside-is : (link : Link) (operator : Operator) (y : Exp) (test : Option NodeTest) → link ≡ l.Operator operator → operator ≡ o.DoubleSlash →
+inside-is : (link : Separator) (operator : Operator) (y : Exp) (test : Option NodeTest) → link ≡ l.Operator operator → operator ≡ o.DoubleSlash →
     y ≡ step_of a.Child test → IsInside link y test
 inside-is link operator y test is double same = λ nodes before c.
     ap (λ link. linked_value nodes link before y c) (is ∙ ap l.Operator double)
     ∙ (ap (λ y. linked_value nodes (l.Operator o.DoubleSlash) before y c) same ∙ step-inside nodes test before c)
 
-pub inside-found : (names : List Name) (link : Link) (operator : Operator) (y : Exp) (found : Option (Bor StepTest)) → link ≡ l.Operator operator →
+pub inside-found : (names : List Name) (link : Separator) (operator : Operator) (y : Exp) (found : Option (Bor StepTest)) → link ≡ l.Operator operator →
     operator ≡ o.DoubleSlash
     → IfSome found (λ test. y ≡ step_of a.Child (test_seen names test.now)) → IfSome found (λ test. IsInside link y (test_seen names test.now))
 inside-found names link operator y None is double h = tt

@@ -12,21 +12,21 @@ use Rattle.xpath_steps.specs.Lending.{lent_value}
 use Rattle.xpath_steps.specs.declared.lending.Lent.{Lent}
 use Rattle.xpath_meaning.specs.Values.{Value}
 use Rattle.xpath_walks.specs.Walks.{Bounds}
-use Rattle.xpath_plan.specs.declared.work.Kind.{Kind}
-use Rattle.xpath_plan.specs.declared.work.Kind.TheVariants as m
-use Rattle.xpath_plan.specs.declared.work.Link.{Link}
-use Rattle.xpath_plan.specs.declared.work.Link.TheVariants as l
+use Rattle.xpath_plan.specs.declared.plan_node.Operation.{Operation}
+use Rattle.xpath_plan.specs.declared.plan_node.Operation.TheVariants as m
+use Rattle.xpath_plan.specs.declared.plan_node.Separator.{Separator}
+use Rattle.xpath_plan.specs.declared.plan_node.Separator.TheVariants as l
 use Rattle.xpath_tokens.specs.declared.token.Operator.TheVariants as o
-use Rattle.xpath_plan.specs.declared.work.Simple.{Simple}
-use Rattle.xpath_plan.specs.declared.work.Simple.TheVariants as s
-use Rattle.xpath_plan.specs.declared.work.StepTest.{StepTest}
-use Rattle.xpath_plan.specs.declared.work.StepTest.TheVariants as t
-use Rattle.xpath_plan.specs.declared.work.Work.{Work, map-Work}
-use Rattle.xpath_plan.specs.declared.work.Work.TheOpen.{Work-F}
-use Rattle.xpath_plan.specs.declared.work.Work.TheFolds.{fold-roll-Work, ind-Work}
-use Rattle.xpath_plan.specs.declared.work.Work.TheVariants as w
+use Rattle.xpath_plan.specs.declared.plan_node.Simple.{Simple}
+use Rattle.xpath_plan.specs.declared.plan_node.Simple.TheVariants as s
+use Rattle.xpath_plan.specs.declared.plan_node.StepTest.{StepTest}
+use Rattle.xpath_plan.specs.declared.plan_node.StepTest.TheVariants as t
+use Rattle.xpath_plan.specs.declared.plan_node.PlanNode.{PlanNode, map-PlanNode}
+use Rattle.xpath_plan.specs.declared.plan_node.PlanNode.TheOpen.{PlanNode-F}
+use Rattle.xpath_plan.specs.declared.plan_node.PlanNode.TheFolds.{fold-roll-PlanNode, ind-PlanNode}
+use Rattle.xpath_plan.specs.declared.plan_node.PlanNode.TheVariants as w
 use Rattle.xpath_plan.specs.Plans.{seen, made, test_seen}
-use Rattle.xpath_parts.specs.declared.ground.Ground.{Ground}
+use Rattle.xpath_parts.specs.declared.dynamic.DynamicContext.{DynamicContext}
 use Rattle.xpath_parts.specs.declared.named.Walk.{Walk}
 use Rattle.xpath_parts.specs.Contexts.{value_in, context}
 use Rattle.xpath_parts.specs.Named.{Form, name_of, name_on, child_name, is_item, simple_form, is_double_slash, is_other, child_of, is_item_form, inner_name}
@@ -44,10 +44,10 @@ none_some x e = cc
 -- ---- the form of a work by its parts
 
 pub form-simple : (x : Simple) → form (w.Simple x) ≡ simple_form (is_item x) (child_name x)
-form-simple x = ap form (sym (w.rolls-Simple x)) ∙ fold-roll-Work Form form_step (Work-F.Simple x)
+form-simple x = ap form (sym (w.rolls-Simple x)) ∙ fold-roll-PlanNode Form form_step (PlanNode-F.Simple x)
 
-pub form-node : (kind : Kind) (parts : List (Link × Work)) → form (w.Node kind parts) ≡ node_form kind (forms parts)
-form-node kind parts = ap form (sym (w.rolls-Node kind parts)) ∙ fold-roll-Work Form form_step (Work-F.Node kind parts)
+pub form-node : (kind : Operation) (parts : List (Separator × PlanNode)) → form (w.Node kind parts) ≡ node_form kind (forms parts)
+form-node kind parts = ap form (sym (w.rolls-Node kind parts)) ∙ fold-roll-PlanNode Form form_step (PlanNode-F.Node kind parts)
 
 -- ---- steps to children of a name
 
@@ -87,7 +87,7 @@ pub child_some : (simple : Simple) (found : Option ℕ) → found ≡ child_name
 child_some simple None e = tt
 child_some simple (Some k) e = child_is simple k (sym e)
 
-pub work_some : (work : Work) (simple : Simple) (found : Option ℕ) → work ≡ w.Simple simple → IfSome found (λ k. simple ≡ s.Step a.Child (t.Named k))
+pub work_some : (work : PlanNode) (simple : Simple) (found : Option ℕ) → work ≡ w.Simple simple → IfSome found (λ k. simple ≡ s.Step a.Child (t.Named k))
     → IfSome found (λ k. work ≡ w.Simple (s.Step a.Child (t.Named k)))
 work_some work simple None is h = tt
 work_some work simple (Some k) is h = is ∙ ap w.Simple h
@@ -107,7 +107,7 @@ child_simple (s.Variable height) = refl
 child_simple (s.Outer name) = refl
 child_simple (s.Called function) = refl
 
-pub child-of_simple : (work : Work) (simple : Simple) → work ≡ w.Simple simple → child_of (form work) ≡ child_name simple
+pub child-of_simple : (work : PlanNode) (simple : Simple) → work ≡ w.Simple simple → child_of (form work) ≡ child_name simple
 child-of_simple work simple is = ap (λ x. child_of (form x)) is ∙ (ap child_of (form-simple simple) ∙ child_simple simple)
 
 -- ---- a work with parts is neither a step nor `.`
@@ -120,7 +120,7 @@ kept_child : (found : Option Walk) → child_of (kept_form found) ≡ None
 kept_child None = refl
 kept_child (Some it) = refl
 
-node_child : (kind : Kind) (parts : List (Link × Form)) → child_of (node_form kind parts) ≡ None
+node_child : (kind : Operation) (parts : List (Separator × Form)) → child_of (node_form kind parts) ≡ None
 node_child m.Chain parts = walk_child (chain_walk parts)
 node_child (m.Once slot zero) [] = refl
 node_child (m.Once slot zero) (part ∷ parts) = kept_child (plain_of part.1)
@@ -137,7 +137,7 @@ node_child (m.Call function) parts = refl
 node_child (m.Matches pattern) parts = refl
 node_child m.Nothing parts = refl
 
-pub child-of_node : (work : Work) (kind : Kind) (parts : List (Link × Work)) → work ≡ w.Node kind parts → child_of (form work) ≡ None
+pub child-of_node : (work : PlanNode) (kind : Operation) (parts : List (Separator × PlanNode)) → work ≡ w.Node kind parts → child_of (form work) ≡ None
 child-of_node work kind parts is = ap (λ x. child_of (form x)) is ∙ (ap child_of (form-node kind parts) ∙ node_child kind (forms parts))
 
 walk_item : (found : Option Walk) → is_item_form (walk_form found) ≡ false
@@ -148,7 +148,7 @@ kept_item : (found : Option Walk) → is_item_form (kept_form found) ≡ false
 kept_item None = refl
 kept_item (Some it) = refl
 
-node_item : (kind : Kind) (parts : List (Link × Form)) → is_item_form (node_form kind parts) ≡ false
+node_item : (kind : Operation) (parts : List (Separator × Form)) → is_item_form (node_form kind parts) ≡ false
 node_item m.Chain parts = walk_item (chain_walk parts)
 node_item (m.Once slot zero) [] = refl
 node_item (m.Once slot zero) (part ∷ parts) = kept_item (plain_of part.1)
@@ -165,7 +165,7 @@ node_item (m.Call function) parts = refl
 node_item (m.Matches pattern) parts = refl
 node_item m.Nothing parts = refl
 
-pub item-of_node : (work : Work) (kind : Kind) (parts : List (Link × Work)) → work ≡ w.Node kind parts → is_item_form (form work) ≡ false
+pub item-of_node : (work : PlanNode) (kind : Operation) (parts : List (Separator × PlanNode)) → work ≡ w.Node kind parts → is_item_form (form work) ≡ false
 item-of_node work kind parts is = ap (λ x. is_item_form (form x)) is ∙ (ap is_item_form (form-node kind parts) ∙ node_item kind (forms parts))
 
 named_item : (found : Option ℕ) → is_item_form (simple_form false found) ≡ false
@@ -183,37 +183,38 @@ simple_item (s.Variable height) = refl
 simple_item (s.Outer name) = refl
 simple_item (s.Called function) = refl
 
-pub item-of_simple : (work : Work) (simple : Simple) → work ≡ w.Simple simple → is_item_form (form work) ≡ is_item simple
+pub item-of_simple : (work : PlanNode) (simple : Simple) → work ≡ w.Simple simple → is_item_form (form work) ≡ is_item simple
 item-of_simple work simple is = ap (λ x. is_item_form (form x)) is ∙ (ap is_item_form (form-simple simple) ∙ simple_item simple)
 
 -- ---- links
 
-pub double_slash_is : (link : Link) → is_double_slash link ≡ true → link ≡ l.Operator o.DoubleSlash
+pub double_slash_is : (link : Separator) → is_double_slash link ≡ true → link ≡ l.Operator o.DoubleSlash
 double_slash_is (l.Operator o.DoubleSlash) h = refl
 double_slash_is (l.Operator _) h = absurd (false≢true h)
 double_slash_is l.Comma h = absurd (false≢true h)
 double_slash_is l.Other h = absurd (false≢true h)
 
-pub other_is : (link : Link) → is_other link ≡ true → link ≡ l.Other
+pub other_is : (link : Separator) → is_other link ≡ true → link ≡ l.Other
 other_is l.Other h = refl
 other_is (l.Operator operator) h = absurd (false≢true h)
 other_is l.Comma h = absurd (false≢true h)
 
-pub inner_some : (part : Link × Work) (found : Option ℕ) → is_double_slash part.0 ≡ true → IfSome found (λ k. part.1 ≡ w.Simple (s.Step a.Child (t.Named k)))
+pub inner_some : (part : Separator × PlanNode) (found : Option ℕ) → is_double_slash part.0 ≡ true → IfSome found (λ k. part.1
+    ≡ w.Simple (s.Step a.Child (t.Named k)))
     → IfSome found (λ k. part ≡ inner_part k)
 inner_some part None is h = tt
 inner_some part (Some k) is h = λ j. (double_slash_is part.0 is j, h j)
 
-pub inner_yes : (link : Link) (it : Form) → is_double_slash link ≡ true → inner_name link it ≡ child_of it
+pub inner_yes : (link : Separator) (it : Form) → is_double_slash link ≡ true → inner_name link it ≡ child_of it
 inner_yes link it h = ap (λ (b : Bool). elim b [ true ↦ child_of it | false ↦ None ]) h
 
-pub inner_no : (link : Link) (it : Form) → is_double_slash link ≡ false → inner_name link it ≡ None
+pub inner_no : (link : Separator) (it : Form) → is_double_slash link ≡ false → inner_name link it ≡ None
 inner_no link it h = ap (λ (b : Bool). elim b [ true ↦ child_of it | false ↦ None ]) h
 
-pub focus_yes : (link : Link) (it : Form) → is_other link ≡ true → is_focus link it ≡ is_item_form it
+pub focus_yes : (link : Separator) (it : Form) → is_other link ≡ true → is_focus link it ≡ is_item_form it
 focus_yes link it h = ap (λ (b : Bool). elim b [ true ↦ is_item_form it | false ↦ false ]) h
 
-pub focus_no : (link : Link) (it : Form) → is_other link ≡ false → is_focus link it ≡ false
+pub focus_no : (link : Separator) (it : Form) → is_other link ≡ false → is_focus link it ≡ false
 focus_no link it h = ap (λ (b : Bool). elim b [ true ↦ is_item_form it | false ↦ false ]) h
 
 -- ---- chains
@@ -229,12 +230,12 @@ two_only (a' ∷ []) x y l is there = absurd (omega (arith, l))
 two_only (a' ∷ b' ∷ []) x y l is there = λ j. sym is j ∷ sym there j ∷ []
 two_only (a' ∷ b' ∷ z ∷ ys) x y l is there = absurd (omega (arith, l))
 
-pub leading_parts : (part : Link × Work) (name : Option ℕ) (found : Option Walk) → found ≡ as_walk true name → IfSome name (λ k. part ≡ inner_part k)
+pub leading_parts : (part : Separator × PlanNode) (name : Option ℕ) (found : Option Walk) → found ≡ as_walk true name → IfSome name (λ k. part ≡ inner_part k)
     → IfSome found (λ it. part ∷ [] ≡ walk_parts it)
 leading_parts part None found is h = rw is tt
 leading_parts part (Some k) found is h = rw is (ap (λ p. p ∷ []) h)
 
-pub inside_parts : (first part : Link × Work) (name : Option ℕ) (found : Option Walk) → found ≡ as_walk false name → first ≡ focus_part
+pub inside_parts : (first part : Separator × PlanNode) (name : Option ℕ) (found : Option Walk) → found ≡ as_walk false name → first ≡ focus_part
     → IfSome name (λ k. part ≡ inner_part k)
     → IfSome found (λ it. first ∷ part ∷ [] ≡ walk_parts it)
 inside_parts first part None found is there h = rw is tt
@@ -244,10 +245,10 @@ plain_chain : (found : Option Walk) → plain_of (walk_form found) ≡ found
 plain_chain None = refl
 plain_chain (Some it) = refl
 
-pub plain-chain : (work : Work) (parts : List (Link × Work)) → work ≡ w.Node m.Chain parts → plain_walk work ≡ chain_walk (forms parts)
+pub plain-chain : (work : PlanNode) (parts : List (Separator × PlanNode)) → work ≡ w.Node m.Chain parts → plain_walk work ≡ chain_walk (forms parts)
 plain-chain work parts is = ap plain_walk is ∙ (ap plain_of (form-node m.Chain parts) ∙ plain_chain (chain_walk (forms parts)))
 
-pub chain_is : (kind : Kind) → is_chain kind ≡ true → kind ≡ m.Chain
+pub chain_is : (kind : Operation) → is_chain kind ≡ true → kind ≡ m.Chain
 chain_is m.Chain h = refl
 chain_is (m.Once slot height) h = absurd (false≢true h)
 chain_is (m.Bound binder) h = absurd (false≢true h)
@@ -262,11 +263,12 @@ chain_is (m.Call function) h = absurd (false≢true h)
 chain_is (m.Matches pattern) h = absurd (false≢true h)
 chain_is m.Nothing h = absurd (false≢true h)
 
-pub by_chain : (kind : Kind) (parts : List (Link × Work)) (found : Option Walk) → is_chain kind ≡ true → found ≡ chain_walk (forms parts)
+pub by_chain : (kind : Operation) (parts : List (Separator × PlanNode)) (found : Option Walk) → is_chain kind ≡ true → found ≡ chain_walk (forms parts)
     → found ≡ plain_walk (w.Node kind parts)
 by_chain kind parts found h is = is ∙ sym (plain-chain (w.Node kind parts) parts (ap (λ kind. w.Node kind parts) (chain_is kind h)))
 
-pub chain_some : (kind : Kind) (parts : List (Link × Work)) (found : Option Walk) → is_chain kind ≡ true → IfSome found (λ it. parts ≡ walk_parts it)
+pub chain_some : (kind : Operation) (parts : List (Separator × PlanNode)) (found : Option Walk) → is_chain kind ≡ true → IfSome found (λ it. parts
+    ≡ walk_parts it)
     → IfSome found (λ it. w.Node kind parts ≡ w.Node m.Chain (walk_parts it))
 chain_some kind parts None h e = tt
 chain_some kind parts (Some it) h e = λ j. w.Node (chain_is kind h j) (e j)
@@ -275,7 +277,7 @@ kept_plain : (found : Option Walk) → plain_of (kept_form found) ≡ None
 kept_plain None = refl
 kept_plain (Some it) = refl
 
-no_chain : (kind : Kind) (parts : List (Link × Form)) → is_chain kind ≡ false → plain_of (node_form kind parts) ≡ None
+no_chain : (kind : Operation) (parts : List (Separator × Form)) → is_chain kind ≡ false → plain_of (node_form kind parts) ≡ None
 no_chain m.Chain parts h = absurd (false≢true (sym h))
 no_chain (m.Once slot zero) [] h = refl
 no_chain (m.Once slot zero) (part ∷ parts) h = kept_plain (plain_of part.1)
@@ -292,7 +294,7 @@ no_chain (m.Call function) parts h = refl
 no_chain (m.Matches pattern) parts h = refl
 no_chain m.Nothing parts h = refl
 
-pub by_no_chain : (kind : Kind) (parts : List (Link × Work)) → is_chain kind ≡ false → None ≡ plain_walk (w.Node kind parts)
+pub by_no_chain : (kind : Operation) (parts : List (Separator × PlanNode)) → is_chain kind ≡ false → None ≡ plain_walk (w.Node kind parts)
 by_no_chain kind parts h = sym (ap plain_of (form-node kind parts) ∙ no_chain kind (forms parts) h)
 
 simple_plain : (is : Bool) (name : Option ℕ) → plain_of (simple_form is name) ≡ None
@@ -300,22 +302,24 @@ simple_plain true name = refl
 simple_plain false None = refl
 simple_plain false (Some k) = refl
 
-pub plain-of_simple : (work : Work) (simple : Simple) → work ≡ w.Simple simple → None ≡ plain_walk work
+pub plain-of_simple : (work : PlanNode) (simple : Simple) → work ≡ w.Simple simple → None ≡ plain_walk work
 plain-of_simple work simple is = sym (ap plain_walk is ∙ (ap plain_of (form-simple simple) ∙ simple_plain (is_item simple) (child_name simple)))
 
-pub plain-of_node : (work : Work) (kind : Kind) (parts parts' : List (Link × Work)) (found : Option Walk) → work ≡ w.Node kind parts → parts' ≡ parts
+pub plain-of_node : (work : PlanNode) (kind : Operation) (parts parts' : List (Separator × PlanNode)) (found : Option Walk) → work ≡ w.Node kind parts
+    → parts' ≡ parts
     → found ≡ plain_walk (w.Node kind parts')
     → found ≡ plain_walk work
 plain-of_node work kind parts parts' found is same h = h ∙ (ap (λ ps. plain_walk (w.Node kind ps)) same ∙ ap plain_walk (sym is))
 
-pub node_some : (work : Work) (kind : Kind) (parts parts' : List (Link × Work)) (found : Option Walk) → work ≡ w.Node kind parts → parts' ≡ parts
+pub node_some : (work : PlanNode) (kind : Operation) (parts parts' : List (Separator × PlanNode)) (found : Option Walk) → work ≡ w.Node kind parts → parts'
+    ≡ parts
     → IfSome found (λ it. w.Node kind parts' ≡ w.Node m.Chain (walk_parts it)) → IfSome found (λ it. work ≡ w.Node m.Chain (walk_parts it))
 node_some work kind parts parts' None is same h = tt
 node_some work kind parts parts' (Some it) is same h = is ∙ (ap (w.Node kind) (sym same) ∙ h)
 
 -- ---- what a walk means
 
-pub walk_begin : (base : Ground) (leading : Bool) (k n : ℕ) (focus : Focus) → focus.item ≡ i.Node n
+pub walk_begin : (base : DynamicContext) (leading : Bool) (k n : ℕ) (focus : Focus) → focus.item ≡ i.Node n
     → value_in base (seen base.names.now (w.Node m.Chain (parts_by leading k))) focus []
     ≡ inside_seen (tree_nodes base.doc.now) (test_seen base.names.now (t.Named k)) (i.Node (begin_by leading n) ∷ [])
 walk_begin base true k n focus is =
@@ -338,7 +342,7 @@ kept_any : (found : Option Walk) → any_of (kept_form found) ≡ found
 kept_any None = refl
 kept_any (Some it) = refl
 
-pub whole_walk : (work part : Work) (slot : ℕ) → IsWhole work slot part → walk_of work ≡ plain_walk part
+pub whole_walk : (work part : PlanNode) (slot : ℕ) → IsWhole work slot part → walk_of work ≡ plain_walk part
 whole_walk work part slot whole =
     ap walk_of whole.is ∙ (ap any_of (form-node (m.Once slot zero) ((whole.link, part) ∷ whole.others)) ∙ kept_any (plain_of (form part)))
 
@@ -349,7 +353,8 @@ walk_any (Some it) = refl
 some_none : {X : Type 0} (x : X) → ◌≡◌ {A = Option X} (Some x) None → ⊥
 some_none x e = cc
 
-unkept : (kind : Kind) (parts : List (Link × Work)) → whole_step (Work-F.Node kind (map (λ (p : Link × Work). (p.0, whole_slot p.1)) parts)) ≡ None
+unkept : (kind : Operation) (parts : List (Separator × PlanNode)) → whole_step (PlanNode-F.Node kind (map (λ (p : Separator
+    × PlanNode). (p.0, whole_slot p.1)) parts)) ≡ None
     → any_of (node_form kind (forms parts)) ≡ plain_of (node_form kind (forms parts))
 unkept m.Chain parts h = walk_any (chain_walk (forms parts))
 unkept (m.Once slot zero) [] h = refl
@@ -372,16 +377,16 @@ unkept_simple true name = refl
 unkept_simple false None = refl
 unkept_simple false (Some k) = refl
 
-unkept_by : (x : Work-F Work) → whole_step (map-Work Work (Option ℕ) whole_slot x) ≡ None
-    → any_of (form_step (map-Work Work Form form x)) ≡ plain_of (form_step (map-Work Work Form form x))
-unkept_by (Work-F.Simple x) h = unkept_simple (is_item x) (child_name x)
-unkept_by (Work-F.Node kind parts) h = unkept kind parts h
+unkept_by : (x : PlanNode-F PlanNode) → whole_step (map-PlanNode PlanNode (Option ℕ) whole_slot x) ≡ None
+    → any_of (form_step (map-PlanNode PlanNode Form form x)) ≡ plain_of (form_step (map-PlanNode PlanNode Form form x))
+unkept_by (PlanNode-F.Simple x) h = unkept_simple (is_item x) (child_name x)
+unkept_by (PlanNode-F.Node kind parts) h = unkept kind parts h
 
-pub unkept_walk : (work : Work) → whole_slot work ≡ None → walk_of work ≡ plain_walk work
-unkept_walk = ind-Work (λ work. whole_slot work ≡ None → walk_of work ≡ plain_walk work) (λ x y is h.
-    ap any_of (fold-roll-Work Form form_step x)
-    ∙ (unkept_by x (sym (fold-roll-Work (Option ℕ) whole_step x) ∙ h)
-    ∙ ap plain_of (sym (fold-roll-Work Form form_step x))))
+pub unkept_walk : (work : PlanNode) → whole_slot work ≡ None → walk_of work ≡ plain_walk work
+unkept_walk = ind-PlanNode (λ work. whole_slot work ≡ None → walk_of work ≡ plain_walk work) (λ x y is h.
+    ap any_of (fold-roll-PlanNode Form form_step x)
+    ∙ (unkept_by x (sym (fold-roll-PlanNode (Option ℕ) whole_step x) ∙ h)
+    ∙ ap plain_of (sym (fold-roll-PlanNode Form form_step x))))
 
 -- ---- what a walk takes
 

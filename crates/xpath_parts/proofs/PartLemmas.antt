@@ -10,8 +10,8 @@ use Rattle.xpath_tokens.specs.declared.token.Operator.TheVariants as o
 use Rattle.xpath_meaning.specs.Expressions as e
 use Rattle.xpath_meaning.specs.Expressions.{Exp}
 use Rattle.xpath_meaning.specs.Resolving.{Operand, in_axis_order, linked, linked_by, chained, chained_on, bound_all, filtered_of, kept_of}
-use Rattle.xpath_plan.specs.declared.work.Link.{Link}
-use Rattle.xpath_plan.specs.declared.work.Work.{Work}
+use Rattle.xpath_plan.specs.declared.plan_node.Separator.{Separator}
+use Rattle.xpath_plan.specs.declared.plan_node.PlanNode.{PlanNode}
 use Rattle.xpath_plan.specs.Plans.{seen}
 use Rattle.xpath_parts.specs.Contexts.{operands_of}
 use Rattle.xpath_parts.specs.Parts.{is_one, IsOnly, is_plain_one}
@@ -79,36 +79,36 @@ plain-one (part ∷ (next ∷ parts)) plain none = false≢true plain
 
 -- The same of a part that was looked for.
 
-module _ (names : List Name) (parts : List (Link × Work)) where
-  abbrev IsFound : Option (Bor Work) → Type 0
+module _ (names : List Name) (parts : List (Separator × PlanNode)) where
+  abbrev IsFound : Option (Bor PlanNode) → Type 0
   IsFound found = IfSome found (λ work. IsOnly (operands_of names parts) (seen names work.now))
 
-  pub chain-only-part : (found : Option (Bor Work)) → is_plain_one (operands_of names parts) ≡ true → IsFound found →
+  pub chain-only-part : (found : Option (Bor PlanNode)) → is_plain_one (operands_of names parts) ≡ true → IsFound found →
       IfSome found (λ work. chained (operands_of names parts) ≡ seen names work.now)
   chain-only-part None plain h = tt
   chain-only-part (Some work) plain h = chain-only (operands_of names parts) (seen names work.now) plain h
 
-  pub no-plain-one : (found : Option (Bor Work)) → is_plain_one (operands_of names parts) ≡ true → IfNone found (is_one (operands_of names parts) ≡ false)
+  pub no-plain-one : (found : Option (Bor PlanNode)) → is_plain_one (operands_of names parts) ≡ true → IfNone found (is_one (operands_of names parts) ≡ false)
       → IfNone found (in_axis_order (chained (operands_of names parts)) ≡ chained (operands_of names parts))
   no-plain-one None plain h = absurd (plain-one (operands_of names parts) plain h)
   no-plain-one (Some work) plain h = tt
 
-  pub bound-only-part : (binder : Binder) (found : Option (Bor Work)) → IsFound found →
+  pub bound-only-part : (binder : Binder) (found : Option (Bor PlanNode)) → IsFound found →
       IfSome found (λ work. bound_all binder (operands_of names parts) ≡ seen names work.now)
   bound-only-part binder None h = tt
   bound-only-part binder (Some work) h = bound-only binder (operands_of names parts) (seen names work.now) h
 
-  pub bound-plain-part : (binder : Binder) (found : Option (Bor Work)) → IfNone found (is_one (operands_of names parts) ≡ false)
+  pub bound-plain-part : (binder : Binder) (found : Option (Bor PlanNode)) → IfNone found (is_one (operands_of names parts) ≡ false)
       → IfNone found (in_axis_order (bound_all binder (operands_of names parts)) ≡ bound_all binder (operands_of names parts))
   bound-plain-part binder None h = bound-plain binder (operands_of names parts) h
   bound-plain-part binder (Some work) h = tt
 
-  pub filtered-only-part : (found : Option (Bor Work)) → IsFound found →
+  pub filtered-only-part : (found : Option (Bor PlanNode)) → IsFound found →
       IfSome found (λ work. filtered_of false (operands_of names parts) ≡ seen names work.now)
   filtered-only-part None h = tt
   filtered-only-part (Some work) h = filtered-only (operands_of names parts) (seen names work.now) h
 
-  pub filtered-plain-part : (found : Option (Bor Work)) → IfNone found (is_one (operands_of names parts) ≡ false)
+  pub filtered-plain-part : (found : Option (Bor PlanNode)) → IfNone found (is_one (operands_of names parts) ≡ false)
       → IfNone found (in_axis_order (filtered_of false (operands_of names parts)) ≡ filtered_of false (operands_of names parts))
   filtered-plain-part None h = filtered-plain (operands_of names parts) h
   filtered-plain-part (Some work) h = tt

@@ -17,45 +17,49 @@ use Rattle.xpath_meaning.specs.Expressions as e
 use Rattle.xpath_meaning.specs.Expressions.{Exp, NodeTest}
 use Rattle.xpath_meaning.specs.Resolving.{Operand, step_of, in_axis_order, chained, bound_all, filtered_of, kept_of}
 use Rattle.xpath_meaning.specs.Meaning.{Context, mean, inside, bound_by}
-use Rattle.xpath_plan.specs.declared.work.Link.{Link}
-use Rattle.xpath_plan.specs.declared.work.Link.TheVariants as l
-use Rattle.xpath_plan.specs.declared.work.StepTest.{StepTest}
-use Rattle.xpath_plan.specs.declared.work.Simple.{Simple}
-use Rattle.xpath_plan.specs.declared.work.Kind.{Kind}
-use Rattle.xpath_plan.specs.declared.work.Kind.TheVariants as m
-use Rattle.xpath_plan.specs.declared.work.Work.{Work, Work-F, fold-roll-Work}
-use Rattle.xpath_plan.specs.declared.work.Work.TheVariants as w
+use Rattle.xpath_plan.specs.declared.plan_node.Separator.{Separator}
+use Rattle.xpath_plan.specs.declared.plan_node.Separator.TheVariants as l
+use Rattle.xpath_plan.specs.declared.plan_node.StepTest.{StepTest}
+use Rattle.xpath_plan.specs.declared.plan_node.Simple.{Simple}
+use Rattle.xpath_plan.specs.declared.plan_node.Operation.{Operation}
+use Rattle.xpath_plan.specs.declared.plan_node.Operation.TheVariants as m
+use Rattle.xpath_plan.specs.declared.plan_node.PlanNode.{PlanNode, PlanNode-F, fold-roll-PlanNode}
+use Rattle.xpath_plan.specs.declared.plan_node.PlanNode.TheVariants as w
 use Rattle.xpath_plan.specs.Plans.{label_of, simple_seen, test_seen, made, seen_step, seen}
 use Rattle.xpath_steps.specs.Steps.{stepped_path_seen}
-use Rattle.xpath_parts.specs.declared.ground.Ground.{Ground}
+use Rattle.xpath_parts.specs.declared.dynamic.DynamicContext.{DynamicContext}
 use Rattle.xpath_parts.specs.Contexts.{IsReady, context, operands_of, turn_in, value_in}
 use Rattle.xpath_parts.specs.Links.{turn, chain_value, linked_parts, kept_by_all, filtered_so, bound_value}
 use Rattle.xpath_parts.specs.Parts.{is_operator, is_filtered_step}
 use Rattle.xpath_parts.proofs.LinkLemmas.{by-chain, by-predicates, ordered-none}
 
 pub seen-simple : (names : List Name) (x : Simple) → seen names (w.Simple x) ≡ simple_seen names x
-seen-simple names x = ap (seen names) (sym (w.rolls-Simple x)) ∙ fold-roll-Work Exp (seen_step names) (Work-F.Simple x)
+seen-simple names x = ap (seen names) (sym (w.rolls-Simple x)) ∙ fold-roll-PlanNode Exp (seen_step names) (PlanNode-F.Simple x)
 
-labelled-operands : (names : List Name) (parts : List (Link × Work)) →
-    map (λ (part : Link × Exp). (label_of part.0, part.1)) (map (λ (part : Link × Work). (part.0, seen names part.1)) parts) ≡ operands_of names parts
+labelled-operands : (names : List Name) (parts : List (Separator × PlanNode)) →
+    map (λ (part : Separator × Exp). (label_of part.0, part.1)) (map (λ (part : Separator × PlanNode). (part.0, seen names part.1)) parts)
+        ≡ operands_of names parts
 labelled-operands names [] = refl
 labelled-operands names (part ∷ parts) = ap (λ operands. (label_of part.0, seen names part.1) ∷ operands) (labelled-operands names parts)
 
-pub seen-node : (names : List Name) (kind : Kind) (parts : List (Link × Work)) → seen names (w.Node kind parts) ≡ made kind (operands_of names parts)
+pub seen-node : (names : List Name) (kind : Operation) (parts : List (Separator × PlanNode)) → seen names (w.Node kind parts)
+    ≡ made kind (operands_of names parts)
 seen-node names kind parts = ap (seen names) (sym (w.rolls-Node kind parts)) ∙
-    (fold-roll-Work Exp (seen_step names) (Work-F.Node kind parts) ∙ ap (made kind) (labelled-operands names parts))
+    (fold-roll-PlanNode Exp (seen_step names) (PlanNode-F.Node kind parts) ∙ ap (made kind) (labelled-operands names parts))
 
-pub seen-at : (names : List Name) (work : Work) (kind : Kind) (parts parts' : List (Link × Work)) → work ≡ w.Node kind parts → parts' ≡ parts →
+pub seen-at : (names : List Name) (work : PlanNode) (kind : Operation) (parts parts' : List (Separator × PlanNode)) → work ≡ w.Node kind parts → parts'
+    ≡ parts →
     seen names work ≡ made kind (operands_of names parts')
 seen-at names work kind parts parts' is same = ap (seen names) is ∙ (seen-node names kind parts ∙ ap (λ parts. made kind (operands_of names parts)) (sym same))
 
 -- a value, of another expression that is the same
-pub value-along : (r : Result (List Item) Fault) (ground : Ground) (focus : Focus) (bound : List Item) (x y : Exp) → x ≡ y →
-    Gives r (value_in ground x focus bound) → Gives r (value_in ground y focus bound)
-value-along r ground focus bound x y e h = subst (λ x. Gives r (value_in ground x focus bound)) e h
+pub value-along : (r : Result (List Item) Fault) (dynamic : DynamicContext) (focus : Focus) (bound : List Item) (x y : Exp) → x ≡ y →
+    Gives r (value_in dynamic x focus bound) → Gives r (value_in dynamic y focus bound)
+value-along r dynamic focus bound x y e h = subst (λ x. Gives r (value_in dynamic x focus bound)) e h
 
-pub ready-along : (ground : Ground) (focus : Focus) (bound bound' : List Item) → bound' ≡ bound → IsReady ground focus bound → IsReady ground focus bound'
-ready-along ground focus bound bound' e h = subst (IsReady ground focus) (sym e) h
+pub ready-along : (dynamic : DynamicContext) (focus : Focus) (bound bound' : List Item) → bound' ≡ bound → IsReady dynamic focus bound
+    → IsReady dynamic focus bound'
+ready-along dynamic focus bound bound' e h = subst (IsReady dynamic focus) (sym e) h
 
 -- a step behind `/`
 path-of_step : (nodes : List Node) (axis : Axis) (test : Option NodeTest) (items : List Item) (c : Context) →
@@ -63,18 +67,19 @@ path-of_step : (nodes : List Node) (axis : Axis) (test : Option NodeTest) (items
 path-of_step nodes axis None items c = refl
 path-of_step nodes axis (Some test) items c = refl
 
-pub path-step : (ground : Ground) (bound : List Item) (work : Work) (axis : Axis) (test : StepTest) (items items' : List Item) →
-    seen ground.names.now work ≡ step_of axis (test_seen ground.names.now test) → items' ≡ items
-    → stepped_path_seen (tree_nodes ground.doc.now) axis (test_seen ground.names.now test) items' ≡ path (tree_nodes ground.doc.now)
-    (turn_in ground (seen ground.names.now work) bound) items
-path-step ground bound work axis test items items' is same =
+pub path-step : (dynamic : DynamicContext) (bound : List Item) (work : PlanNode) (axis : Axis) (test : StepTest) (items items' : List Item) →
+    seen dynamic.names.now work ≡ step_of axis (test_seen dynamic.names.now test) → items' ≡ items
+    → stepped_path_seen (tree_nodes dynamic.doc.now) axis (test_seen dynamic.names.now test) items' ≡ path (tree_nodes dynamic.doc.now)
+    (turn_in dynamic (seen dynamic.names.now work) bound) items
+path-step dynamic bound work axis test items items' is same =
     let focus : Focus = record { item = i.Boolean true; position = 1; last = 1 } in
-    ap (stepped_path_seen (tree_nodes ground.doc.now) axis (test_seen ground.names.now test)) same
-    ∙ sym (ap (λ x. path (tree_nodes ground.doc.now) (turn_in ground x bound) items) is ∙
-    path-of_step (tree_nodes ground.doc.now) axis (test_seen ground.names.now test) items (context ground focus bound))
+    ap (stepped_path_seen (tree_nodes dynamic.doc.now) axis (test_seen dynamic.names.now test)) same
+    ∙ sym (ap (λ x. path (tree_nodes dynamic.doc.now) (turn_in dynamic x bound) items) is ∙
+    path-of_step (tree_nodes dynamic.doc.now) axis (test_seen dynamic.names.now test) items (context dynamic focus bound))
 
 -- what a path that begins with an operator is, and another chain
-pub chain-at_root : (nodes : List Node) (names : List Name) (parts : List (Link × Work)) (first : Link × Work) (others : List (Link × Work)) (c : Context) →
+pub chain-at_root : (nodes : List Node) (names : List Name) (parts : List (Separator × PlanNode)) (first : Separator × PlanNode) (others : List (Separator
+    × PlanNode)) (c : Context) →
     parts ≡ first ∷ others → is_operator (label_of first.0) ≡ true
     → chain_value nodes (linked_parts names parts) (root_of c.focus.item) c ≡ mean nodes (chained (operands_of names parts)) c
 chain-at_root nodes names parts (l.Operator operator, work) others c is h =
@@ -83,7 +88,8 @@ chain-at_root nodes names parts (l.Operator operator, work) others c is h =
 chain-at_root nodes names parts (l.Comma, work) others c is h = absurd (false≢true h)
 chain-at_root nodes names parts (l.Other, work) others c is h = absurd (false≢true h)
 
-pub chain-at_first : (nodes : List Node) (names : List Name) (parts : List (Link × Work)) (first : Link × Work) (others : List (Link × Work)) (c : Context) →
+pub chain-at_first : (nodes : List Node) (names : List Name) (parts : List (Separator × PlanNode)) (first : Separator × PlanNode) (others : List (Separator
+    × PlanNode)) (c : Context) →
     parts ≡ first ∷ others → is_operator (label_of first.0) ≡ false
     → chain_value nodes (linked_parts names others) (mean nodes (seen names first.1) c) c ≡ mean nodes (chained (operands_of names parts)) c
 chain-at_first nodes names parts (l.Operator operator, work) others c is h = absurd (false≢true (sym h))
@@ -93,41 +99,41 @@ chain-at_first nodes names parts (l.Other, work) others c is h =
     sym (by-chain nodes names others (seen names work) c) ∙ ap (λ parts. mean nodes (chained (operands_of names parts)) c) (sym is)
 
 -- predicates behind a first part
-module _ (ground : Ground) (focus : Focus) (bound : List Item) (parts predicates : List (Link × Work)) (first : Link × Work)
+module _ (dynamic : DynamicContext) (focus : Focus) (bound : List Item) (parts predicates : List (Separator × PlanNode)) (first : Separator × PlanNode)
     (parts_are : parts ≡ first ∷ predicates) where
   abbrev first_so : Bool → Exp → Exp
   first_so true x = in_axis_order x
   first_so false x = x
 
   abbrev kept_behind : List Item → Value
-  kept_behind items = kept_by_all (λ x. turn_in ground x bound) (operands_of ground.names.now predicates) items
+  kept_behind items = kept_by_all (λ x. turn_in dynamic x bound) (operands_of dynamic.names.now predicates) items
 
-  so : (is_step : Bool) → filtered_so is_step (operands_of ground.names.now (first ∷ predicates)) ≡ kept_of (first_so is_step (seen ground.names.now first.1))
-      (operands_of ground.names.now predicates)
+  so : (is_step : Bool) → filtered_so is_step (operands_of dynamic.names.now (first ∷ predicates)) ≡ kept_of (first_so is_step (seen dynamic.names.now first.1))
+      (operands_of dynamic.names.now predicates)
   so true = refl
   so false = refl
 
-  filter-opened : (is_step : Bool) → value_in ground (filtered_so is_step (operands_of ground.names.now parts)) focus bound
-      ≡ then_ (value_in ground (first_so is_step (seen ground.names.now first.1)) focus bound) kept_behind
-  filter-opened is_step = ap (λ parts. value_in ground (filtered_so is_step (operands_of ground.names.now parts)) focus bound) parts_are
-      ∙ (ap (λ x. value_in ground x focus bound) (so is_step) ∙ by-predicates (tree_nodes ground.doc.now) (operands_of ground.names.now predicates)
-      (first_so is_step (seen ground.names.now first.1)) (context ground focus bound))
+  filter-opened : (is_step : Bool) → value_in dynamic (filtered_so is_step (operands_of dynamic.names.now parts)) focus bound
+      ≡ then_ (value_in dynamic (first_so is_step (seen dynamic.names.now first.1)) focus bound) kept_behind
+  filter-opened is_step = ap (λ parts. value_in dynamic (filtered_so is_step (operands_of dynamic.names.now parts)) focus bound) parts_are
+      ∙ (ap (λ x. value_in dynamic x focus bound) (so is_step) ∙ by-predicates (tree_nodes dynamic.doc.now) (operands_of dynamic.names.now predicates)
+      (first_so is_step (seen dynamic.names.now first.1)) (context dynamic focus bound))
 
   -- where the first part's value is there
-  pub filter-ok : (is_step b : Bool) (items : List Item) → is_step ≡ b → value_in ground (first_so b (seen ground.names.now first.1)) focus bound ≡ Ok items
-      → kept_behind items ≡ value_in ground (filtered_so is_step (operands_of ground.names.now parts)) focus bound
-  filter-ok is_step b items is found = sym (ap (λ is_step. value_in ground (filtered_so is_step (operands_of ground.names.now parts)) focus bound) is ∙
+  pub filter-ok : (is_step b : Bool) (items : List Item) → is_step ≡ b → value_in dynamic (first_so b (seen dynamic.names.now first.1)) focus bound ≡ Ok items
+      → kept_behind items ≡ value_in dynamic (filtered_so is_step (operands_of dynamic.names.now parts)) focus bound
+  filter-ok is_step b items is found = sym (ap (λ is_step. value_in dynamic (filtered_so is_step (operands_of dynamic.names.now parts)) focus bound) is ∙
       (filter-opened b ∙ ap (λ v. then_ v kept_behind) found))
 
   pub filter-err : (is_step b : Bool) (fault : Fault) → is_step ≡ b →
-      Gives (Err fault) (value_in ground (first_so b (seen ground.names.now first.1)) focus bound)
-      → Gives (Err fault) (value_in ground (filtered_so is_step (operands_of ground.names.now parts)) focus bound)
+      Gives (Err fault) (value_in dynamic (first_so b (seen dynamic.names.now first.1)) focus bound)
+      → Gives (Err fault) (value_in dynamic (filtered_so is_step (operands_of dynamic.names.now parts)) focus bound)
   filter-err is_step b f.Memory is found = tt
-  filter-err is_step b (f.Error error) is found = ap (λ is_step. value_in ground (filtered_so is_step (operands_of ground.names.now parts)) focus bound) is ∙
+  filter-err is_step b (f.Error error) is found = ap (λ is_step. value_in dynamic (filtered_so is_step (operands_of dynamic.names.now parts)) focus bound) is ∙
       (filter-opened b ∙ ap (λ v. then_ v kept_behind) found)
 
 -- a step with predicates
-pub filtered_step-made : (kind : Kind) (parts : List Operand) → is_filtered_step kind ≡ true → filtered_so true parts ≡ in_axis_order (made kind parts)
+pub filtered_step-made : (kind : Operation) (parts : List Operand) → is_filtered_step kind ≡ true → filtered_so true parts ≡ in_axis_order (made kind parts)
 filtered_step-made m.FilteredStep [] h = refl
 filtered_step-made m.FilteredStep (part ∷ parts) h = refl
 filtered_step-made m.FreeStep [] h = refl
@@ -150,7 +156,8 @@ filtered_step-ordered nodes [] c items is = ap Ok (sym (ordered-none nodes nodes
 filtered_step-ordered nodes (part ∷ parts) c items is = ap (λ v. then_ v (λ items. Ok (in_document_order nodes items))) is
 
 -- `for`, `some` and `every` behind the items of the first variable
-pub bind-value : (nodes : List Node) (names : List Name) (binder : Binder) (parts : List (Link × Work)) (first : Link × Work) (inner : List (Link × Work))
+pub bind-value : (nodes : List Node) (names : List Name) (binder : Binder) (parts : List (Separator × PlanNode)) (first : Separator
+    × PlanNode) (inner : List (Separator × PlanNode))
     (c c' : Context) (items : List Item)
     → parts ≡ first ∷ inner → 0 < length inner → c' ≡ c → mean nodes (seen names first.1) c ≡ Ok items →
     bound_value binder nodes (operands_of names inner) items c' ≡ mean nodes (bound_all binder (operands_of names parts)) c

@@ -20,19 +20,19 @@ use Rattle.xpath_meaning.specs.Expressions.{Exp}
 use Rattle.xpath_meaning.specs.Resolving.{first_part}
 use Rattle.xpath_meaning.specs.Meaning.{Context, mean}
 use Rattle.xpath_meaning.specs.Uses.{IsAtNode}
-use Rattle.xpath_plan.specs.declared.work.Link.{Link}
-use Rattle.xpath_plan.specs.declared.work.Kind.{Kind}
-use Rattle.xpath_plan.specs.declared.work.Kind.TheVariants as m
-use Rattle.xpath_plan.specs.declared.work.Work.{Work, map-Work}
-use Rattle.xpath_plan.specs.declared.work.Work.TheOpen.{Work-F}
-use Rattle.xpath_plan.specs.declared.work.Work.TheFolds.{fold-roll-Work, ind-Work}
-use Rattle.xpath_plan.specs.declared.work.Work.TheVariants as w
+use Rattle.xpath_plan.specs.declared.plan_node.Separator.{Separator}
+use Rattle.xpath_plan.specs.declared.plan_node.Operation.{Operation}
+use Rattle.xpath_plan.specs.declared.plan_node.Operation.TheVariants as m
+use Rattle.xpath_plan.specs.declared.plan_node.PlanNode.{PlanNode, map-PlanNode}
+use Rattle.xpath_plan.specs.declared.plan_node.PlanNode.TheOpen.{PlanNode-F}
+use Rattle.xpath_plan.specs.declared.plan_node.PlanNode.TheFolds.{fold-roll-PlanNode, ind-PlanNode}
+use Rattle.xpath_plan.specs.declared.plan_node.PlanNode.TheVariants as w
 use Rattle.xpath_plan.specs.Plans.{seen, seen_step, label_of, made}
 use Rattle.xpath_plan.specs.Claims.{Kept, Known, IsPlaced, known, known_step, kept_known, operands_known, own_kept, kept_in}
 use Rattle.xpath_steps.specs.Lending.{lent_value}
 use Rattle.xpath_steps.specs.Variables.{ValueWithin}
 use Rattle.xpath_steps.specs.declared.lending.Lent.{Lent}
-use Rattle.xpath_parts.specs.declared.ground.Ground.{Ground}
+use Rattle.xpath_parts.specs.declared.dynamic.DynamicContext.{DynamicContext}
 use Rattle.xpath_parts.specs.Contexts.{count, context, operands_of, value_in}
 use Rattle.xpath_parts.specs.Finishing.{wanted, first_alone}
 use Rattle.xpath_meaning.specs.Steps.{is_node}
@@ -41,39 +41,43 @@ use Rattle.xpath_parts.specs.Slots.{table, PlacedWork, PlacedParts, PlacedNode, 
 
 -- ---- the expression beside the kept parts is that of the work
 
-operands-same : (names : List Name) (parts : List (Link × ((work : Work) × ((known names work).exp ≡ seen names work))))
-    → operands_known (map (λ (p : Link × Work). (p.0, known names p.1))
-    (map (λ (p : Link × ((work : Work) × ((known names work).exp ≡ seen names work))). (p.0, p.1.0)) parts))
-    ≡ map (λ (p : Link × Exp). (label_of p.0, p.1)) (map (λ (p : Link × Work). (p.0, seen names p.1))
-    (map (λ (p : Link × ((work : Work) × ((known names work).exp ≡ seen names work))). (p.0, p.1.0)) parts))
+operands-same : (names : List Name) (parts : List (Separator × ((work : PlanNode) × ((known names work).exp ≡ seen names work))))
+    → operands_known (map (λ (p : Separator × PlanNode). (p.0, known names p.1))
+    (map (λ (p : Separator × ((work : PlanNode) × ((known names work).exp ≡ seen names work))). (p.0, p.1.0)) parts))
+    ≡ map (λ (p : Separator × Exp). (label_of p.0, p.1)) (map (λ (p : Separator × PlanNode). (p.0, seen names p.1))
+    (map (λ (p : Separator × ((work : PlanNode) × ((known names work).exp ≡ seen names work))). (p.0, p.1.0)) parts))
 operands-same names [] = refl
 operands-same names (part ∷ parts) = λ j. (label_of part.0, part.1.1 j) ∷ operands-same names parts j
 
-step-same : (names : List Name) (y : Work-F ((work : Work) × ((known names work).exp ≡ seen names work)))
-    → (known_step names (map-Work Work Known (known names) (map-Work ((work : Work) × ((known names work).exp ≡ seen names work)) Work (λ e. e.0) y))).exp
-    ≡ seen_step names (map-Work Work Exp (seen names) (map-Work ((work : Work) × ((known names work).exp ≡ seen names work)) Work (λ e. e.0) y))
-step-same names (Work-F.Simple x) = refl
-step-same names (Work-F.Node kind parts) = ap (made kind) (operands-same names parts)
+step-same : (names : List Name) (y : PlanNode-F ((work : PlanNode) × ((known names work).exp ≡ seen names work)))
+    → (known_step names (map-PlanNode PlanNode Known (known names) (map-PlanNode ((work : PlanNode) × ((known names work).exp
+        ≡ seen names work)) PlanNode (λ e. e.0) y))).exp
+    ≡ seen_step names (map-PlanNode PlanNode Exp (seen names) (map-PlanNode ((work : PlanNode) × ((known names work).exp
+        ≡ seen names work)) PlanNode (λ e. e.0) y))
+step-same names (PlanNode-F.Simple x) = refl
+step-same names (PlanNode-F.Node kind parts) = ap (made kind) (operands-same names parts)
 
-pub known-exp : (names : List Name) (work : Work) → (known names work).exp ≡ seen names work
-known-exp names = ind-Work (λ work. (known names work).exp ≡ seen names work) (λ x y is.
-    ap (λ (k : Known). k.exp) (fold-roll-Work Known (known_step names) x)
-    ∙ (subst (λ z. (known_step names (map-Work Work Known (known names) z)).exp ≡ seen_step names (map-Work Work Exp (seen names) z)) is (step-same names y)
-    ∙ sym (fold-roll-Work Exp (seen_step names) x)))
+pub known-exp : (names : List Name) (work : PlanNode) → (known names work).exp ≡ seen names work
+known-exp names = ind-PlanNode (λ work. (known names work).exp ≡ seen names work) (λ x y is.
+    ap (λ (k : Known). k.exp) (fold-roll-PlanNode Known (known_step names) x)
+    ∙ (subst (λ z. (known_step names (map-PlanNode PlanNode Known (known names) z)).exp ≡ seen_step names (map-PlanNode PlanNode Exp (seen names) z)) is
+        (step-same names y)
+    ∙ sym (fold-roll-PlanNode Exp (seen_step names) x)))
 
-operands-known : (names : List Name) (parts : List (Link × Work))
-    → operands_known (map (λ (p : Link × Work). (p.0, known names p.1)) parts) ≡ operands_of names parts
+operands-known : (names : List Name) (parts : List (Separator × PlanNode))
+    → operands_known (map (λ (p : Separator × PlanNode). (p.0, known names p.1)) parts) ≡ operands_of names parts
 operands-known names [] = refl
 operands-known names (part ∷ parts) = λ j. (label_of part.0, known-exp names part.1 j) ∷ operands-known names parts j
 
-kept-known : (names : List Name) (parts : List (Link × Work)) → kept_known (map (λ (p : Link × Work). (p.0, known names p.1)) parts) ≡ kept_parts names parts
+kept-known : (names : List Name) (parts : List (Separator × PlanNode)) → kept_known (map (λ (p : Separator × PlanNode). (p.0, known names p.1)) parts)
+    ≡ kept_parts names parts
 kept-known names [] = refl
 kept-known names (part ∷ parts) = ap (λ others. kept_in names part.1 ++ others) (kept-known names parts)
 
-kept-node : (names : List Name) (kind : Kind) (parts : List (Link × Work))
+kept-node : (names : List Name) (kind : Operation) (parts : List (Separator × PlanNode))
     → kept_in names (w.Node kind parts) ≡ kept_parts names parts ++ own_kept kind (operands_of names parts)
 kept-node names kind parts =
-    ap (kept_in names) (sym (w.rolls-Node kind parts)) ∙ (ap (λ (k : Known). k.kept) (fold-roll-Work Known (known_step names) (Work-F.Node kind parts))
+    ap (kept_in names) (sym (w.rolls-Node kind parts)) ∙ (ap (λ (k : Known). k.kept) (fold-roll-PlanNode Known (known_step names) (PlanNode-F.Node kind parts))
     ∙ (λ j. kept-known names parts j ++ own_kept kind (operands-known names parts j)))
 
 -- ---- parts of what is placed are placed
@@ -86,70 +90,75 @@ all_right : (P : Kept → Type 0) (xs ys : List Kept) → AllByRecursion P (xs +
 all_right P [] ys h = h
 all_right P (x ∷ xs) ys h = all_right P xs ys h.1
 
-pub placed_node : (base : Ground) (work : Work) (kind : Kind) (parts parts' : List (Link × Work)) → work ≡ w.Node kind parts → parts' ≡ parts
+pub placed_node : (base : DynamicContext) (work : PlanNode) (kind : Operation) (parts parts' : List (Separator × PlanNode)) → work ≡ w.Node kind parts
+    → parts' ≡ parts
     → PlacedWork base work → PlacedNode base kind parts'
 unfolding PlacedWork PlacedNode
 placed_node base work kind parts parts' is same h = subst (ArePlaced (table base))
     (ap (kept_in base.names.now) is ∙ (kept-node base.names.now kind parts
     ∙ ap (λ ps. kept_parts base.names.now ps ++ own_kept kind (operands_of base.names.now ps)) (sym same))) h
 
-pub placed_parts : (base : Ground) (kind : Kind) (parts : List (Link × Work)) → PlacedNode base kind parts → PlacedParts base parts
+pub placed_parts : (base : DynamicContext) (kind : Operation) (parts : List (Separator × PlanNode)) → PlacedNode base kind parts → PlacedParts base parts
 unfolding PlacedNode PlacedParts
 placed_parts base kind parts h = all_left (IsPlaced (table base)) (kept_parts base.names.now parts) (own_kept kind (operands_of base.names.now parts)) h
 
-pub placed_own : (base : Ground) (slot height : ℕ) (parts : List (Link × Work)) → PlacedNode base (m.Once slot height) parts
+pub placed_own : (base : DynamicContext) (slot height : ℕ) (parts : List (Separator × PlanNode)) → PlacedNode base (m.Once slot height) parts
     → IsPlaced (table base) (record { slot = slot; height = height; exp = first_part (operands_of base.names.now parts) })
 unfolding PlacedNode
 placed_own base slot height parts h = (all_right (IsPlaced (table base)) (kept_parts base.names.now parts)
     (own_kept (m.Once slot height) (operands_of base.names.now parts)) h).0
 
-pub placed_first : (base : Ground) (parts others : List (Link × Work)) (part : Link × Work) → parts ≡ part ∷ others → PlacedParts base parts
+pub placed_first : (base : DynamicContext) (parts others : List (Separator × PlanNode)) (part : Separator × PlanNode) → parts ≡ part ∷ others
+    → PlacedParts base parts
     → PlacedWork base part.1
 unfolding PlacedParts PlacedWork
 placed_first base parts others part is h = all_left (IsPlaced (table base)) (kept_in base.names.now part.1) (kept_parts base.names.now others)
     (subst (λ ps. ArePlaced (table base) (kept_parts base.names.now ps)) is h)
 
-pub placed_others : (base : Ground) (parts others : List (Link × Work)) (part : Link × Work) → parts ≡ part ∷ others → PlacedParts base parts
+pub placed_others : (base : DynamicContext) (parts others : List (Separator × PlanNode)) (part : Separator × PlanNode) → parts ≡ part ∷ others
+    → PlacedParts base parts
     → PlacedParts base others
 unfolding PlacedParts
 placed_others base parts others part is h = all_right (IsPlaced (table base)) (kept_in base.names.now part.1) (kept_parts base.names.now others)
     (subst (λ ps. ArePlaced (table base) (kept_parts base.names.now ps)) is h)
 
-pub placed_at : (base : Ground) (parts : List (Link × Work)) (k : ℕ) (part : Link × Work) → k < length parts → part ≡ get_or parts k part
+pub placed_at : (base : DynamicContext) (parts : List (Separator × PlanNode)) (k : ℕ) (part : Separator × PlanNode) → k < length parts → part
+    ≡ get_or parts k part
     → PlacedParts base parts → PlacedWork base part.1
 unfolding PlacedParts PlacedWork
 placed_at base [] k part within is h = absurd (omega (arith, within))
 placed_at base (first ∷ parts) zero part within is h =
-    subst (λ (p : Link × Work). ArePlaced (table base) (kept_in base.names.now p.1)) (sym is)
+    subst (λ (p : Separator × PlanNode). ArePlaced (table base) (kept_in base.names.now p.1)) (sym is)
     (all_left (IsPlaced (table base)) (kept_in base.names.now first.1) (kept_parts base.names.now parts) h)
 placed_at base (first ∷ parts) (suc k) part within is h =
     placed_at base parts k part (omega (arith, within)) is (all_right (IsPlaced (table base)) (kept_in base.names.now first.1)
     (kept_parts base.names.now parts) h)
 
 -- the same, and of the place itself
-pub placed_there : (base : Ground) (parts : List (Link × Work)) (k : ℕ) (part : Link × Work) → k < length parts → part ≡ get_or parts k part
+pub placed_there : (base : DynamicContext) (parts : List (Separator × PlanNode)) (k : ℕ) (part : Separator × PlanNode) → k < length parts → part
+    ≡ get_or parts k part
     → PlacedParts base parts
     → PlacedWork base part.1 × PlacedWork base (get_or parts k part).1
 placed_there base parts k part within is h =
-    (placed_at base parts k part within is h, subst (λ (p : Link × Work). PlacedWork base p.1) is (placed_at base parts k part within is h))
+    (placed_at base parts k part within is h, subst (λ (p : Separator × PlanNode). PlacedWork base p.1) is (placed_at base parts k part within is h))
 
-first_placed : (base : Ground) (parts : List (Link × Work)) → PlacedParts base parts → PlacedParts base (first_alone parts)
+first_placed : (base : DynamicContext) (parts : List (Separator × PlanNode)) → PlacedParts base parts → PlacedParts base (first_alone parts)
 unfolding PlacedParts
 first_placed base [] h = tt
 first_placed base (part ∷ parts) h =
     subst (ArePlaced (table base)) (sym (append-nil (kept_in base.names.now part.1)))
     (all_left (IsPlaced (table base)) (kept_in base.names.now part.1) (kept_parts base.names.now parts) h)
 
-none_placed : (base : Ground) → PlacedParts base []
+none_placed : (base : DynamicContext) → PlacedParts base []
 unfolding PlacedParts
 none_placed base = tt
 
-pub placed_dropped : (base : Ground) (n : ℕ) (parts : List (Link × Work)) → PlacedParts base parts → PlacedParts base (drop n parts)
+pub placed_dropped : (base : DynamicContext) (n : ℕ) (parts : List (Separator × PlanNode)) → PlacedParts base parts → PlacedParts base (drop n parts)
 placed_dropped base zero parts h = h
 placed_dropped base (suc n) [] h = none_placed base
 placed_dropped base (suc n) (part ∷ parts) h = placed_dropped base n parts (placed_others base (part ∷ parts) parts part refl h)
 
-wanted_placed : (base : Ground) (kind : Kind) (parts : List (Link × Work)) → PlacedParts base parts → PlacedParts base (wanted kind parts)
+wanted_placed : (base : DynamicContext) (kind : Operation) (parts : List (Separator × PlanNode)) → PlacedParts base parts → PlacedParts base (wanted kind parts)
 wanted_placed base (m.Cast word function optional) parts h = first_placed base parts h
 wanted_placed base (m.Signs signs) parts h = first_placed base parts h
 wanted_placed base m.Only parts h = first_placed base parts h
@@ -157,7 +166,7 @@ wanted_placed base (m.Call function) parts h = h
 wanted_placed base (m.Matches pattern) parts h = first_placed base parts h
 wanted_placed base _ parts h = none_placed base
 
-pub placed_wanted : (base : Ground) (kind : Kind) (parts wanted_parts : List (Link × Work)) → wanted_parts ≡ wanted kind parts
+pub placed_wanted : (base : DynamicContext) (kind : Operation) (parts wanted_parts : List (Separator × PlanNode)) → wanted_parts ≡ wanted kind parts
     → PlacedNode base kind parts → PlacedParts base wanted_parts
 placed_wanted base kind parts wanted_parts is h = subst (PlacedParts base) (sym is) (wanted_placed base kind parts (placed_parts base kind parts h))
 
@@ -184,13 +193,13 @@ put_over [] k v w h = cc
 put_over (slot ∷ slots) zero v w h = refl
 put_over (slot ∷ slots) (suc k) v w h = put_over slots k v w h
 
-pub held_there : (base : Ground) (slots : List (Option Value)) (part : Kept) (v : Value) → IsPlaced (table base) part → AreHeld base slots
+pub held_there : (base : DynamicContext) (slots : List (Option Value)) (part : Kept) (v : Value) → IsPlaced (table base) part → AreHeld base slots
     → get_or slots part.slot None ≡ Some v
     → IsHeld (tree_nodes base.doc.now) (count base) part v
 unfolding HoldIn
 held_there base slots part v placed held is = held part.slot part v placed.at is
 
-module _ (base : Ground) (slots : List (Option Value)) (part : Kept) (v : Value) (c : Context) (placed : IsPlaced (table base) part)
+module _ (base : DynamicContext) (slots : List (Option Value)) (part : Kept) (v : Value) (c : Context) (placed : IsPlaced (table base) part)
     (here : IsAtNode part.height c)
     (is : v ≡ mean (tree_nodes base.doc.now) part.exp c) (within : ValueWithin (count base) v) (held : AreHeld base slots) where
   holds : IsHeld (tree_nodes base.doc.now) (count base) part v
@@ -229,14 +238,15 @@ node_there (i.String s) h = absurd (false≢true h)
 node_there (i.Untyped s) h = absurd (false≢true h)
 node_there (i.Date day) h = absurd (false≢true h)
 
-pub at_node : (base : Ground) (focus : Focus) (bound : List Item) (height : ℕ) → is_node focus.item ≡ true → length bound ≡ height
+pub at_node : (base : DynamicContext) (focus : Focus) (bound : List Item) (height : ℕ) → is_node focus.item ≡ true → length bound ≡ height
     → IsAtNode height (context base focus bound)
 at_node base focus bound height is long =
     let there = node_there focus.item is in
     record { node = there.0; item = there.1; count = length-reverse bound ∙ long }
 
 -- what a slot holds of the part there
-pub kept_here : (base : Ground) (slots : List (Option Value)) (slot height : ℕ) (parts : List (Link × Work)) (focus : Focus) (bound : List Item)
+pub kept_here : (base : DynamicContext) (slots : List (Option Value)) (slot height : ℕ) (parts : List (Separator
+    × PlanNode)) (focus : Focus) (bound : List Item)
     (found : Option Lent) (lent : Lent)
     → PlacedNode base (m.Once slot height) parts → AreHeld base slots → is_node focus.item ≡ true → length bound ≡ height
     → option_map lent_value found ≡ get_or slots slot None → found ≡ Some lent
@@ -248,7 +258,8 @@ kept_here base slots slot height parts focus bound found lent placed held is lon
     (holds.value (context base focus bound) (at_node base focus bound height is long), holds.within)
 
 -- the same, where there is something
-pub kept_if_there : (base : Ground) (slots : List (Option Value)) (slot height : ℕ) (parts : List (Link × Work)) (focus : Focus) (bound : List Item)
+pub kept_if_there : (base : DynamicContext) (slots : List (Option Value)) (slot height : ℕ) (parts : List (Separator
+    × PlanNode)) (focus : Focus) (bound : List Item)
     (found : Option Lent)
     → PlacedNode base (m.Once slot height) parts → AreHeld base slots → is_node focus.item ≡ true → length bound ≡ height
     → option_map lent_value found ≡ get_or slots slot None
@@ -258,7 +269,8 @@ kept_if_there base slots slot height parts focus bound None placed held is long 
 kept_if_there base slots slot height parts focus bound (Some lent) placed held is long read =
     kept_here base slots slot height parts focus bound (Some lent) lent placed held is long read refl
 
-module _ (base : Ground) (slots slots' : List (Option Value)) (slot height : ℕ) (parts : List (Link × Work)) (focus : Focus) (bound : List Item) (v : Value)
+module _ (base : DynamicContext) (slots slots' : List (Option Value)) (slot height : ℕ) (parts : List (Separator
+    × PlanNode)) (focus : Focus) (bound : List Item) (v : Value)
     (placed : PlacedNode base (m.Once slot height) parts) (held : AreHeld base slots) (is : is_node focus.item ≡ true) (long : length bound ≡ height)
     (found : v ≡ value_in base (first_part (operands_of base.names.now parts)) focus bound) (within : ValueWithin (count base) v)
     (put : slots' ≡ filled slots slot v) where
@@ -275,7 +287,8 @@ module _ (base : Ground) (slots slots' : List (Option Value)) (slot height : ℕ
 
 -- ---- a part that is evaluated for its slot
 
-pub part_here : (base : Ground) (kind : Kind) (parts : List (Link × Work)) (focus : Focus) (bound : List Item) (slot : ℕ) (part : Work)
+pub part_here : (base : DynamicContext) (kind : Operation) (parts : List (Separator × PlanNode)) (focus : Focus) (bound : List Item) (slot : ℕ) (part :
+    PlanNode)
     → kind ≡ m.Once slot (length bound) → is_node focus.item ≡ true → first_part (operands_of base.names.now parts) ≡ seen base.names.now part
     → PlacedNode base kind parts → PlacedWork base part
     → IsKeptHere base focus bound slot part
@@ -286,7 +299,7 @@ part_here base kind parts focus bound slot part once node first own placed = rec
   node = node;
 }
 
-module _ (base : Ground) (slots slots' : List (Option Value)) (focus : Focus) (bound : List Item) (slot : ℕ) (part : Work) (v : Value)
+module _ (base : DynamicContext) (slots slots' : List (Option Value)) (focus : Focus) (bound : List Item) (slot : ℕ) (part : PlanNode) (v : Value)
     (here : IsKeptHere base focus bound slot part) (held : AreHeld base slots) (found : v ≡ value_in base (seen base.names.now part) focus bound)
     (within : ValueWithin (count base) v) (put : slots' ≡ filled slots slot v) where
   pub held_here : AreHeld base slots'
@@ -299,38 +312,38 @@ module _ (base : Ground) (slots slots' : List (Option Value)) (focus : Focus) (b
 
 -- ---- the whole plan
 
-pub whole-node : (kind : Kind) (parts : List (Link × Work)) → whole_slot (w.Node kind parts) ≡ whole_step
-    (Work-F.Node kind (map (λ (p : Link × Work). (p.0, whole_slot p.1)) parts))
-whole-node kind parts = ap whole_slot (sym (w.rolls-Node kind parts)) ∙ fold-roll-Work (Option ℕ) whole_step (Work-F.Node kind parts)
+pub whole-node : (kind : Operation) (parts : List (Separator × PlanNode)) → whole_slot (w.Node kind parts) ≡ whole_step
+    (PlanNode-F.Node kind (map (λ (p : Separator × PlanNode). (p.0, whole_slot p.1)) parts))
+whole-node kind parts = ap whole_slot (sym (w.rolls-Node kind parts)) ∙ fold-roll-PlanNode (Option ℕ) whole_step (PlanNode-F.Node kind parts)
 
 within_table : (parts : List Kept) (k : ℕ) (part : Kept) → slice_get parts k ≡ Some part → k < length parts
 within_table [] k part h = cc
 within_table (first ∷ parts) zero part h = omega arith
 within_table (first ∷ parts) (suc k) part h = let more = within_table parts k part h in omega (arith, more)
 
-pub put_now : (base : Ground) (slots slots' : List (Option Value)) (slot height : ℕ) (parts : List (Link × Work)) (v : Value)
+pub put_now : (base : DynamicContext) (slots slots' : List (Option Value)) (slot height : ℕ) (parts : List (Separator × PlanNode)) (v : Value)
     → PlacedNode base (m.Once slot height) parts → length slots ≡ length (table base) → slots' ≡ filled slots slot v → get_or slots' slot None ≡ Some v
 put_now base slots slots' slot height parts v placed long put =
     ap (λ s. get_or s slot None) put
     ∙ get_or-set_same slots slot (Some v) None (omega (arith, within_table (table base) slot _ (placed_own base slot height parts placed).at, long))
 
-pub whole_seen : (names : List Name) (work part : Work) (slot : ℕ) → IsWhole work slot part → seen names work ≡ seen names part
+pub whole_seen : (names : List Name) (work part : PlanNode) (slot : ℕ) → IsWhole work slot part → seen names work ≡ seen names part
 whole_seen names work part slot whole = ap (seen names) whole.is ∙ seen-node names (m.Once slot zero) ((whole.link, part) ∷ whole.others)
 
-pub whole_is : (work part : Work) (slot : ℕ) → IsWhole work slot part → whole_slot work ≡ Some slot
+pub whole_is : (work part : PlanNode) (slot : ℕ) → IsWhole work slot part → whole_slot work ≡ Some slot
 whole_is work part slot whole = ap whole_slot whole.is ∙ whole-node (m.Once slot zero) ((whole.link, part) ∷ whole.others)
 
-pub whole_placed : (base : Ground) (work part : Work) (slot : ℕ) (whole : IsWhole work slot part) → PlacedWork base work
+pub whole_placed : (base : DynamicContext) (work part : PlanNode) (slot : ℕ) (whole : IsWhole work slot part) → PlacedWork base work
     → PlacedNode base (m.Once slot zero) ((whole.link, part) ∷ whole.others)
 whole_placed base work part slot whole h = placed_node base work (m.Once slot zero) ((whole.link, part) ∷ whole.others)
     ((whole.link, part) ∷ whole.others) whole.is refl h
 
-pub part_placed : (base : Ground) (work part : Work) (slot : ℕ) → IsWhole work slot part → PlacedWork base work → PlacedWork base part
+pub part_placed : (base : DynamicContext) (work part : PlanNode) (slot : ℕ) → IsWhole work slot part → PlacedWork base work → PlacedWork base part
 part_placed base work part slot whole h = placed_first base ((whole.link, part) ∷ whole.others) whole.others (whole.link, part) refl
     (placed_parts base (m.Once slot zero) ((whole.link, part) ∷ whole.others) (whole_placed base work part slot whole h))
 
 -- what a slot holds of the whole
-pub whole_here : (base : Ground) (slots : List (Option Value)) (work part : Work) (slot : ℕ) (focus : Focus) (found : Option Lent) (lent : Lent)
+pub whole_here : (base : DynamicContext) (slots : List (Option Value)) (work part : PlanNode) (slot : ℕ) (focus : Focus) (found : Option Lent) (lent : Lent)
     → IsWhole work slot part → PlacedWork base work → AreHeld base slots → is_node focus.item ≡ true → option_map lent_value found ≡ get_or slots slot None
     → found ≡ Some lent
     → (lent_value lent ≡ value_in base (seen base.names.now work) focus []) × ValueWithin (count base) (lent_value lent)
@@ -340,11 +353,12 @@ whole_here base slots work part slot focus found lent whole placed held is read 
     (it.0 ∙ ap (λ x. value_in base x focus []) (sym (whole_seen base.names.now work part slot whole)), it.1)
 
 -- what was found of the whole, put into its slot unless memory ran out
-module _ (base : Ground) (slots slots' : List (Option Value)) (work part : Work) (slot : ℕ) (focus : Focus) (v : Value) (r : Result Outcome AllocError)
+module _ (base : DynamicContext) (slots slots' : List (Option Value)) (work part : PlanNode) (slot : ℕ) (focus : Focus) (v : Value) (r : Result Outcome
+    AllocError)
     (whole : IsWhole work slot part) (placed : PlacedWork base work) (held : AreHeld base slots) (is : is_node focus.item ≡ true)
     (found : v ≡ value_in base (seen base.names.now part) focus []) (within : ValueWithin (count base) v)
     (put : OnOk r (slots' ≡ filled slots slot v)) (left : OnErr r (slots' ≡ slots)) where
-  abbrev the_parts : List (Link × Work)
+  abbrev the_parts : List (Separator × PlanNode)
   the_parts = (whole.link, part) ∷ whole.others
 
   pub whole_held : AreHeld base slots'
@@ -375,7 +389,7 @@ pub grows_long : (a b : List (Option Value)) → Grows a b → length b ≡ leng
 unfolding Grows
 grows_long a b f = f.0
 
-pub placed_plan : (base : Ground) (work : Work) → base.names.now ≡ base.plan.now.names → work ≡ base.plan.now.work
+pub placed_plan : (base : DynamicContext) (work : PlanNode) → base.names.now ≡ base.plan.now.names → work ≡ base.plan.now.work
     → ArePlaced (table base) (table base) → PlacedWork base work
 unfolding PlacedWork
 placed_plan base work names is h = subst (ArePlaced (table base)) ((λ j. kept_in (sym names j) (sym is j))) h

@@ -8,7 +8,7 @@ use Rattle.xpath_items.specs.declared.item.Item.TheVariants as i
 use Rattle.xpath_meaning.specs.Expressions.{NodeTest, the_item}
 use Rattle.xpath_meaning.specs.Meaning.{Context, mean}
 use Rattle.xpath_meaning.specs.Resolving.{step_of}
-use Rattle.xpath_plan.specs.declared.work.Kind.TheVariants as m
+use Rattle.xpath_plan.specs.declared.plan_node.Operation.TheVariants as m
 use Rattle.xpath_plan.specs.Plans.{made}
 use Rattle.xpath_steps.specs.Steps.{inside_seen}
 

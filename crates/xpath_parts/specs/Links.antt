@@ -13,9 +13,9 @@ use Rattle.xpath_meaning.specs.Expressions as e
 use Rattle.xpath_meaning.specs.Expressions.{Exp, NodeTest}
 use Rattle.xpath_meaning.specs.Resolving.{Operand, all_inside, bound_all, in_axis_order, kept_of}
 use Rattle.xpath_meaning.specs.Meaning.{Context, at, inside, mean, truth_of, operated, bound_by}
-use Rattle.xpath_plan.specs.declared.work.Link.{Link}
-use Rattle.xpath_plan.specs.declared.work.Link.TheVariants as l
-use Rattle.xpath_plan.specs.declared.work.Work.{Work}
+use Rattle.xpath_plan.specs.declared.plan_node.Separator.{Separator}
+use Rattle.xpath_plan.specs.declared.plan_node.Separator.TheVariants as l
+use Rattle.xpath_plan.specs.declared.plan_node.PlanNode.{PlanNode}
 use Rattle.xpath_plan.specs.Plans.{seen}
 use Rattle.xpath_operators.specs.Nodes.{AreWithin}
 use Rattle.xpath_steps.specs.Steps.{inside_seen}
@@ -42,13 +42,13 @@ behind nodes o.Or xs y c = then_ (truth xs) (λ holds. elim holds [ true ↦ boo
 behind nodes operator xs y c = then_ (mean nodes y c) (λ ys. operated nodes operator xs ys)
 
 -- the value of what is so linked, by the value before the link
-abbrev pub linked_value : List Node → Link → Value → Exp → Context → Value
+abbrev pub linked_value : List Node → Separator → Value → Exp → Context → Value
 linked_value nodes (l.Operator operator) before y c = then_ before (λ xs. behind nodes operator xs y c)
 linked_value nodes l.Comma before y c = joined before (mean nodes y c)
 linked_value nodes l.Other before y c = Ok []
 
 -- the value of a chain, by the value before it
-abbrev pub chain_value : List Node → List (Link × Exp) → Value → Context → Value
+abbrev pub chain_value : List Node → List (Separator × Exp) → Value → Context → Value
 chain_value nodes [] before c = before
 chain_value nodes (part ∷ parts) before c = chain_value nodes parts (linked_value nodes part.0 before part.1 c) c
 
@@ -62,22 +62,22 @@ abbrev pub inside_value : List Node → Option NodeTest → Value → Value
 inside_value nodes test before = then_ before (inside_seen nodes test)
 
 -- The link and its operand are `//` and such a step.
-abbrev pub IsInside : Link → Exp → Option NodeTest → Type 0
+abbrev pub IsInside : Separator → Exp → Option NodeTest → Type 0
 IsInside link y test = (nodes : List Node) (before : Value) (c : Context) → linked_value nodes link before y c ≡ inside_value nodes test before
 
 -- what is made of the value before a link and of its operand's
-abbrev pub joined_by : List Node → Link → List Item → List Item → Value
+abbrev pub joined_by : List Node → Separator → List Item → List Item → Value
 joined_by nodes (l.Operator operator) xs ys = with_values nodes operator xs ys
 joined_by nodes l.Comma xs ys = joined (Ok xs) (Ok ys)
 joined_by nodes l.Other xs ys = Ok []
 
 -- The operator of the link takes the items of both operands as they are.
-abbrev pub IsOnItems : Link → Operator → Type 0
+abbrev pub IsOnItems : Separator → Operator → Type 0
 IsOnItems link operator = (nodes : List Node) (xs ys : List Item) → joined_by nodes link xs ys ≡ operated nodes operator xs ys
 
 -- Of the value before a link this is known before its operand is evaluated: the value of both, or that the operand's
 -- value is wanted, or that the operand is taken at each item.
-abbrev pub IsAhead : List Node → Link → Value → Ahead → Type 0
+abbrev pub IsAhead : List Node → Separator → Value → Ahead → Type 0
 IsAhead nodes link before (a.Done outcome) = (y : Exp) (c : Context) → linked_value nodes link before y c ≡ value outcome
 IsAhead nodes link before (a.Operand xs) = (y : Exp) (c : Context) → linked_value nodes link before y c ≡ then_ (mean nodes y c) (joined_by nodes link xs)
 IsAhead nodes link before (a.Turns xs) = (y : Exp) (c : Context) → linked_value nodes link before y c ≡ path nodes (turn nodes y c) xs
@@ -89,12 +89,12 @@ AheadWithin count (a.Operand xs) = AreWithin count xs
 AheadWithin count (a.Turns xs) = AreWithin count xs
 
 -- the operator that this truth before it decides
-abbrev pub deciding_link : Bool → Link
+abbrev pub deciding_link : Bool → Separator
 deciding_link false = l.Operator o.And
 deciding_link true = l.Operator o.Or
 
 -- the operands of a chain, each with what stands before it
-abbrev pub linked_parts : List Name → List (Link × Work) → List (Link × Exp)
+abbrev pub linked_parts : List Name → List (Separator × PlanNode) → List (Separator × Exp)
 linked_parts names parts = map (λ part. (part.0, seen names part.1)) parts
 
 -- the first part with the predicates behind it, in the order of its axis where it is a step

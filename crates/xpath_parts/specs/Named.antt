@@ -4,17 +4,17 @@ use Rattle.xpath_tokens.specs.declared.token.Operator.TheVariants as o
 use Rattle.xpath_grammar.specs.declared.step.Axis.{Axis}
 use Rattle.xpath_grammar.specs.declared.step.Axis.TheVariants as a
 use Rattle.xpath_meaning.specs.Values.{Value}
-use Rattle.xpath_plan.specs.declared.work.StepTest.{StepTest}
-use Rattle.xpath_plan.specs.declared.work.StepTest.TheVariants as t
-use Rattle.xpath_plan.specs.declared.work.Simple.{Simple}
-use Rattle.xpath_plan.specs.declared.work.Simple.TheVariants as s
-use Rattle.xpath_plan.specs.declared.work.Link.{Link}
-use Rattle.xpath_plan.specs.declared.work.Link.TheVariants as l
-use Rattle.xpath_plan.specs.declared.work.Kind.{Kind}
-use Rattle.xpath_plan.specs.declared.work.Kind.TheVariants as m
-use Rattle.xpath_plan.specs.declared.work.Work.{Work, fold-Work}
-use Rattle.xpath_plan.specs.declared.work.Work.TheOpen.{Work-F}
-use Rattle.xpath_plan.specs.declared.work.Work.TheVariants as w
+use Rattle.xpath_plan.specs.declared.plan_node.StepTest.{StepTest}
+use Rattle.xpath_plan.specs.declared.plan_node.StepTest.TheVariants as t
+use Rattle.xpath_plan.specs.declared.plan_node.Simple.{Simple}
+use Rattle.xpath_plan.specs.declared.plan_node.Simple.TheVariants as s
+use Rattle.xpath_plan.specs.declared.plan_node.Separator.{Separator}
+use Rattle.xpath_plan.specs.declared.plan_node.Separator.TheVariants as l
+use Rattle.xpath_plan.specs.declared.plan_node.Operation.{Operation}
+use Rattle.xpath_plan.specs.declared.plan_node.Operation.TheVariants as m
+use Rattle.xpath_plan.specs.declared.plan_node.PlanNode.{PlanNode, fold-PlanNode}
+use Rattle.xpath_plan.specs.declared.plan_node.PlanNode.TheOpen.{PlanNode-F}
+use Rattle.xpath_plan.specs.declared.plan_node.PlanNode.TheVariants as w
 use Rattle.xpath_parts.specs.declared.named.Walk.{Walk}
 use Rattle.xpath_parts.specs.Slots.{whole_slot}
 
@@ -52,11 +52,11 @@ simple_form false (Some k) = child k
 
 -- With parts
 
-abbrev pub is_double_slash : Link → Bool
+abbrev pub is_double_slash : Separator → Bool
 is_double_slash (l.Operator o.DoubleSlash) = true
 is_double_slash _ = false
 
-abbrev pub is_other : Link → Bool
+abbrev pub is_other : Separator → Bool
 is_other l.Other = true
 is_other _ = false
 
@@ -69,11 +69,11 @@ is_item_form item = true
 is_item_form _ = false
 
 -- `//` and such a step
-abbrev pub inner_name : Link → Form → Option ℕ
+abbrev pub inner_name : Separator → Form → Option ℕ
 inner_name link it = elim (is_double_slash link) [ true ↦ child_of it | false ↦ None ]
 
 -- `.` as the first part
-abbrev pub is_focus : Link → Form → Bool
+abbrev pub is_focus : Separator → Form → Bool
 is_focus link it = elim (is_other link) [ true ↦ is_item_form it | false ↦ false ]
 
 abbrev pub as_walk : Bool → Option ℕ → Option Walk
@@ -84,7 +84,7 @@ abbrev pub inside_walk : Bool → Option ℕ → Option Walk
 inside_walk true name = as_walk false name
 inside_walk false name = None
 
-abbrev pub chain_walk : List (Link × Form) → Option Walk
+abbrev pub chain_walk : List (Separator × Form) → Option Walk
 chain_walk (part ∷ []) = as_walk true (inner_name part.0 part.1)
 chain_walk (first ∷ part ∷ []) = inside_walk (is_focus first.0 first.1) (inner_name part.0 part.1)
 chain_walk _ = None
@@ -102,27 +102,27 @@ abbrev pub kept_form : Option Walk → Form
 kept_form None = other
 kept_form (Some it) = kept it
 
-abbrev pub node_form : Kind → List (Link × Form) → Form
+abbrev pub node_form : Operation → List (Separator × Form) → Form
 node_form m.Chain parts = walk_form (chain_walk parts)
 node_form (m.Once slot zero) (part ∷ parts) = kept_form (plain_of part.1)
 node_form _ parts = other
 
-abbrev pub is_chain : Kind → Bool
+abbrev pub is_chain : Operation → Bool
 is_chain m.Chain = true
 is_chain _ = false
 
-abbrev pub form_step : Work-F Form → Form
-form_step (Work-F.Simple x) = simple_form (is_item x) (child_name x)
-form_step (Work-F.Node kind parts) = node_form kind parts
+abbrev pub form_step : PlanNode-F Form → Form
+form_step (PlanNode-F.Simple x) = simple_form (is_item x) (child_name x)
+form_step (PlanNode-F.Node kind parts) = node_form kind parts
 
-abbrev pub form : Work → Form
-form = fold-Work Form form_step
+abbrev pub form : PlanNode → Form
+form = fold-PlanNode Form form_step
 
 -- the number of the full name, where the work is a step to children of one
-abbrev pub step_name : Work → Option ℕ
+abbrev pub step_name : PlanNode → Option ℕ
 step_name work = child_of (form work)
 
-abbrev pub forms : List (Link × Work) → List (Link × Form)
+abbrev pub forms : List (Separator × PlanNode) → List (Separator × Form)
 forms parts = map (λ part. (part.0, form part.1)) parts
 
 abbrev pub any_of : Form → Option Walk
@@ -131,29 +131,29 @@ any_of (kept it) = Some it
 any_of _ = None
 
 -- the walk that a work is, whose value isn't kept
-abbrev pub plain_walk : Work → Option Walk
+abbrev pub plain_walk : PlanNode → Option Walk
 plain_walk work = plain_of (form work)
 
 -- the walk that a work is, or the part of it whose value it keeps
-abbrev pub walk_of : Work → Option Walk
+abbrev pub walk_of : PlanNode → Option Walk
 walk_of work = any_of (form work)
 
 -- Nothing is held of the whole.
-abbrev pub IsEmptyAt : Work → List (Option Value) → Type 0
+abbrev pub IsEmptyAt : PlanNode → List (Option Value) → Type 0
 IsEmptyAt work slots = (slot : ℕ) → whole_slot work ≡ Some slot → get_or slots slot None ≡ None
 
 -- the parts of a walk
-abbrev pub inner_part : ℕ → Link × Work
+abbrev pub inner_part : ℕ → Separator × PlanNode
 inner_part k = (l.Operator o.DoubleSlash, w.Simple (s.Step a.Child (t.Named k)))
 
-abbrev pub focus_part : Link × Work
+abbrev pub focus_part : Separator × PlanNode
 focus_part = (l.Other, w.Simple s.Item)
 
-abbrev pub parts_by : Bool → ℕ → List (Link × Work)
+abbrev pub parts_by : Bool → ℕ → List (Separator × PlanNode)
 parts_by true k = inner_part k ∷ []
 parts_by false k = focus_part ∷ inner_part k ∷ []
 
-abbrev pub walk_parts : Walk → List (Link × Work)
+abbrev pub walk_parts : Walk → List (Separator × PlanNode)
 walk_parts it = parts_by it.is_leading it.name
 
 -- the node that it is taken from, at a focus on this one

@@ -4,10 +4,10 @@ use Rattle.xpath_grammar.specs.declared.expr.Label.{Label}
 use Rattle.xpath_grammar.specs.declared.expr.Label.TheVariants as k
 use Rattle.xpath_meaning.specs.Expressions.{Exp}
 use Rattle.xpath_meaning.specs.Resolving.{Operand}
-use Rattle.xpath_plan.specs.declared.work.Kind.{Kind}
-use Rattle.xpath_plan.specs.declared.work.Kind.TheVariants as m
+use Rattle.xpath_plan.specs.declared.plan_node.Operation.{Operation}
+use Rattle.xpath_plan.specs.declared.plan_node.Operation.TheVariants as m
 
-abbrev pub is_filtered_step : Kind → Bool
+abbrev pub is_filtered_step : Operation → Bool
 is_filtered_step m.FilteredStep = true
 is_filtered_step m.FreeStep = true
 is_filtered_step _ = false

@@ -7,8 +7,8 @@ use Rattle.xpath_meaning.specs.Values.{Value}
 use Rattle.xpath_meaning.specs.Items.{is_empty}
 use Rattle.xpath_meaning.specs.Numbers.{counted}
 use Rattle.xpath_meaning.specs.Functions.{call, yes_or_no}
-use Rattle.xpath_plan.specs.declared.work.Kind.{Kind}
-use Rattle.xpath_plan.specs.declared.work.Kind.TheVariants as m
+use Rattle.xpath_plan.specs.declared.plan_node.Operation.{Operation}
+use Rattle.xpath_plan.specs.declared.plan_node.Operation.TheVariants as m
 use Rattle.xpath_parts.specs.declared.sizes.Sizing.{Sizing}
 use Rattle.xpath_parts.specs.declared.sizes.Sizing.TheVariants as s
 
@@ -18,6 +18,6 @@ sized s.Empty items = yes_or_no (is_empty items)
 sized s.Count items = counted (length items)
 
 -- The kind is such a call.
-abbrev pub IsSizing : Kind → Sizing → Type 0
+abbrev pub IsSizing : Operation → Sizing → Type 0
 IsSizing (m.Call function) sizing = (nodes : List Node) (focus : Focus) (items : List Item) → call nodes function focus (items ∷ []) ≡ sized sizing items
 IsSizing _ sizing = ⊥

@@ -18,13 +18,13 @@ use xpath_grammar::functions::Function;
 use xpath_grammar::operators::CastWord;
 use xpath_items::{Fault, Focus, Seq};
 use xpath_operators::{atomise, cast, signed};
-use xpath_plan::work::{Kind, Link, Work};
+use xpath_plan::plan_node::{Operation, PlanNode, Separator};
 use xpath_tokens::token::Operator;
 use xpath_values::found;
 use xsd_pattern::Regex;
 
 /// The first part alone.
-fn first_alone(parts: &[(Link, Work)]) -> &[(Link, Work)]
+fn first_alone(parts: &[(Separator, PlanNode)]) -> &[(Separator, PlanNode)]
     ensures { result.now ≡ spec.first_alone parts.now }
 {
     if parts.is_empty() {
@@ -36,12 +36,16 @@ fn first_alone(parts: &[(Link, Work)]) -> &[(Link, Work)]
 }
 
 /// The parts that are evaluated first.
-pub fn wanted<'w>(kind: &Kind, parts: &'w [(Link, Work)]) -> &'w [(Link, Work)]
+pub fn wanted<'w>(
+    kind: &Operation,
+    parts: &'w [(Separator, PlanNode)],
+) -> &'w [(Separator, PlanNode)]
     ensures { result.now ≡ spec.wanted kind.now parts.now }
 {
     match kind {
-        Kind::Cast(_, _, _) | Kind::Signs(_) | Kind::Only | Kind::Matches(_) => first_alone(parts),
-        Kind::Call(_) => parts,
+        Operation::Cast(_, _, _) | Operation::Signs(_) | Operation::Only | Operation::Matches(_) =>
+            first_alone(parts),
+        Operation::Call(_) => parts,
         _ => &[],
     }
 }
@@ -95,7 +99,7 @@ fn found_first<'a>(
 pub fn finished<'a>(
     alloc: Global,
     doc: &Doc<'a>,
-    kind: &Kind,
+    kind: &Operation,
     focus: &Focus<'a>,
     values: Values<'a>,
 ) -> Result<Seq<'a>, Fault>
@@ -105,7 +109,7 @@ pub fn finished<'a>(
     ensures within { IfOk result (λ items. AreWithin (length doc.now.nodes) items) }
 {
     match kind {
-        Kind::Cast(word, to, optional) => cast_first(
+        Operation::Cast(word, to, optional) => cast_first(
             alloc,
             doc,
             *word,
@@ -113,12 +117,12 @@ pub fn finished<'a>(
             *optional,
             values.into_first(alloc),
         ),
-        Kind::Signs(signs) => {
+        Operation::Signs(signs) => {
             signed_first(alloc, doc, signs.as_slice(), values.into_first(alloc))
         }
-        Kind::Only => Ok(values.into_first(alloc)),
-        Kind::Call(function) => called(alloc, doc, *function, focus, values),
-        Kind::Matches(pattern) => found_first(alloc, doc, pattern, values.into_first(alloc)),
+        Operation::Only => Ok(values.into_first(alloc)),
+        Operation::Call(function) => called(alloc, doc, *function, focus, values),
+        Operation::Matches(pattern) => found_first(alloc, doc, pattern, values.into_first(alloc)),
         _ => Ok(Seq::new(alloc)),
     }
 }

@@ -4,8 +4,8 @@
 
 pub mod at_hand;
 pub mod calling;
+mod dynamic;
 pub mod finishing;
-mod ground;
 pub mod linking;
 mod named;
 pub mod parts;
@@ -15,6 +15,6 @@ mod slots;
 pub mod turns;
 pub mod values;
 
-pub use ground::Ground;
+pub use dynamic::DynamicContext;
 pub use named::{Walk, child_name, is_chain, node_of, step_name, walk_in, walked};
 pub use slots::Slots;

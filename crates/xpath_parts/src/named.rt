@@ -3,21 +3,21 @@ ghost use Rattle.std.specs.Prelude.{◌≡◌, ◌<◌, [], true, false, length,
 ghost use Rattle.node_arena.specs.Moves.{tree_nodes};
 ghost use Rattle.xpath_meaning.specs.Steps as steps_spec;
 ghost use Rattle.xpath_meaning.specs.Values.{value};
-ghost use Rattle.xpath_plan.specs.declared.work.Work.TheVariants as w;
+ghost use Rattle.xpath_plan.specs.declared.plan_node.PlanNode.TheVariants as w;
 ghost use Rattle.xpath_plan.specs.Plans.{seen, test_seen};
 ghost use Rattle.xpath_parts.specs.Contexts.{IsReady, count, value_in};
 ghost use Rattle.xpath_parts.specs.Named as spec;
 ghost use Rattle.xpath_steps.specs.Variables.{ValueWithin};
 ghost use Rattle.xpath_walks.specs.Walks.{Bounds, chain_of};
 
-use crate::ground::Ground;
+use crate::dynamic::DynamicContext;
 use inv_base::Steps;
 use node_arena::NodeId;
 use std::alloc::AllocError;
 use std::sync::ledger::Ledger;
 use xpath_grammar::step::Axis;
 use xpath_items::{Focus, Item, Outcome};
-use xpath_plan::work::{Kind, Link, Simple, StepTest, Work};
+use xpath_plan::plan_node::{Operation, PlanNode, Separator, Simple, StepTest};
 use xpath_steps::inside_named;
 use xpath_tokens::token::Operator;
 
@@ -59,36 +59,36 @@ pub fn child_name(simple: &Simple) -> Option<usize>
 }
 
 /// The same of any work. One with parts is no step alone.
-pub fn step_name(work: &Work) -> Option<usize>
+pub fn step_name(work: &PlanNode) -> Option<usize>
     ensures name { result ≡ spec.step_name work.now }
     ensures step { IfSome result (λ k. work.now ≡ w.Simple (Simple.Step Axis.Child (StepTest.Named k))) }
 {
     match work {
-        Work::Simple(simple) => child_name(simple),
-        Work::Node(_, _) => None,
+        PlanNode::Simple(simple) => child_name(simple),
+        PlanNode::Node(_, _) => None,
     }
 }
 
-fn is_double_slash(link: Link) -> bool
+fn is_double_slash(link: Separator) -> bool
     ensures { result ≡ spec.is_double_slash link }
 {
     match link {
-        Link::Operator(Operator::DoubleSlash) => true,
+        Separator::Operator(Operator::DoubleSlash) => true,
         _ => false,
     }
 }
 
-fn is_other(link: Link) -> bool
+fn is_other(link: Separator) -> bool
     ensures { result ≡ spec.is_other link }
 {
     match link {
-        Link::Other => true,
+        Separator::Other => true,
         _ => false,
     }
 }
 
 /// The number of the name, of `//` and a step to children of a full name.
-fn inner_name(part: &(Link, Work)) -> Option<usize>
+fn inner_name(part: &(Separator, PlanNode)) -> Option<usize>
     ensures form { result ≡ spec.inner_name part.now.0 (spec.form part.now.1) }
     ensures part { IfSome result (λ k. part.now ≡ spec.inner_part k) }
 {
@@ -110,18 +110,18 @@ fn is_item(simple: &Simple) -> bool
 }
 
 /// Whether the work is `.`.
-fn is_item_alone(work: &Work) -> bool
+fn is_item_alone(work: &PlanNode) -> bool
     ensures form { result ≡ spec.is_item_form (spec.form work.now) }
     ensures item { result ≡ true → work.now ≡ w.Simple Simple.Item }
 {
     match work {
-        Work::Simple(simple) => is_item(simple),
-        Work::Node(_, _) => false,
+        PlanNode::Simple(simple) => is_item(simple),
+        PlanNode::Node(_, _) => false,
     }
 }
 
 /// Whether the part is `.`, as the first of a path.
-fn is_focus(part: &(Link, Work)) -> bool
+fn is_focus(part: &(Separator, PlanNode)) -> bool
     ensures form { result ≡ spec.is_focus part.now.0 (spec.form part.now.1) }
     ensures part { result ≡ true → part.now ≡ spec.focus_part }
 {
@@ -142,7 +142,7 @@ fn as_walk(is_leading: bool, name: Option<usize>) -> Option<Walk>
 }
 
 /// The walk that a chain is.
-fn chain_walk(parts: &[(Link, Work)]) -> Option<Walk>
+fn chain_walk(parts: &[(Separator, PlanNode)]) -> Option<Walk>
     ensures form { result ≡ spec.chain_walk (spec.forms parts.now) }
     ensures parts { IfSome result (λ walk. parts.now ≡ spec.walk_parts walk) }
 {
@@ -154,19 +154,19 @@ fn chain_walk(parts: &[(Link, Work)]) -> Option<Walk>
 }
 
 /// Whether its parts are operands with operators between them.
-pub fn is_chain(kind: &Kind) -> bool
+pub fn is_chain(kind: &Operation) -> bool
     ensures { result ≡ spec.is_chain kind.now }
 {
     match kind {
-        Kind::Chain => true,
+        Operation::Chain => true,
         _ => false,
     }
 }
 
 /// The walk that the kind makes of its parts.
-fn walk_by(kind: &Kind, parts: &[(Link, Work)]) -> Option<Walk>
+fn walk_by(kind: &Operation, parts: &[(Separator, PlanNode)]) -> Option<Walk>
     ensures form { result ≡ spec.plain_walk (w.Node kind.now parts.now) }
-    ensures work { IfSome result (λ walk. w.Node kind.now parts.now ≡ w.Node Kind.Chain (spec.walk_parts walk)) }
+    ensures work { IfSome result (λ walk. w.Node kind.now parts.now ≡ w.Node Operation.Chain (spec.walk_parts walk)) }
 {
     if is_chain(kind) {
         chain_walk(parts)
@@ -176,13 +176,13 @@ fn walk_by(kind: &Kind, parts: &[(Link, Work)]) -> Option<Walk>
 }
 
 /// The walk that a work is, whose value isn't kept.
-pub fn walk_in(work: &Work) -> Option<Walk>
+pub fn walk_in(work: &PlanNode) -> Option<Walk>
     ensures form { result ≡ spec.plain_walk work.now }
-    ensures work { IfSome result (λ walk. work.now ≡ w.Node Kind.Chain (spec.walk_parts walk)) }
+    ensures work { IfSome result (λ walk. work.now ≡ w.Node Operation.Chain (spec.walk_parts walk)) }
 {
     match work {
-        Work::Simple(_) => None,
-        Work::Node(kind, parts) => walk_by(kind, parts.as_slice()),
+        PlanNode::Simple(_) => None,
+        PlanNode::Node(kind, parts) => walk_by(kind, parts.as_slice()),
     }
 }
 
@@ -198,13 +198,13 @@ pub fn node_of(item: &Item<'_>) -> Option<NodeId>
 }
 
 /// The node that a walk is taken from, at a focus on this one.
-fn begin_at(ground: &Ground<'_, '_>, walk: Walk, n: NodeId) -> NodeId
-    requires { n < count ground.now }
+fn begin_at(dynamic: &DynamicContext<'_, '_>, walk: Walk, n: NodeId) -> NodeId
+    requires { n < count dynamic.now }
     ensures begin { result ≡ spec.begin_by walk.is_leading n }
-    ensures within { result < count ground.now }
+    ensures within { result < count dynamic.now }
 {
     if walk.is_leading {
-        ground.doc.document()
+        dynamic.doc.document()
     } else {
         n
     }
@@ -212,26 +212,28 @@ fn begin_at(ground: &Ground<'_, '_>, walk: Walk, n: NodeId) -> NodeId
 
 /// The value of a walk at a focus on a node.
 pub fn walked<'a, L: Ledger>(
-    ground: &Ground<'_, 'a>,
+    dynamic: &DynamicContext<'_, 'a>,
     walk: Walk,
     focus: &Focus<'a>,
     n: NodeId,
     steps: &mut Steps<L>,
 ) -> Result<Outcome<'a>, AllocError>
-    requires ready { IsReady ground.now focus.now [] }
+    requires ready { IsReady dynamic.now focus.now [] }
     requires focus { focus.now.item ≡ Item.Node n }
-    ensures value { IfOk result (λ outcome. value outcome ≡ value_in ground.now (seen ground.now.names.now (w.Node Kind.Chain (spec.walk_parts walk))) focus.now
+    ensures value { IfOk result (λ outcome. value outcome ≡ value_in dynamic.now (seen dynamic.now.names.now (w.Node Operation.Chain (spec.walk_parts walk)))
+        focus.now
         []) }
-    ensures within { IfOk result (λ outcome. ValueWithin (count ground.now) (value outcome)) }
-    ensures cost { Bounds (length (chain_of (tree_nodes ground.now.doc.now) (test_seen ground.now.names.now (StepTest.Named walk.name)))) walk.is_leading result
+    ensures within { IfOk result (λ outcome. ValueWithin (count dynamic.now) (value outcome)) }
+    ensures cost { Bounds (length (chain_of (tree_nodes dynamic.now.doc.now) (test_seen dynamic.now.names.now (StepTest.Named walk.name)))) walk.is_leading
+        result
         steps.old steps.new }
 {
-    let from = begin_at(ground, walk, n);
+    let from = begin_at(dynamic, walk, n);
     let found = inside_named(
-        ground.alloc,
-        ground.doc,
+        dynamic.alloc,
+        dynamic.doc,
         walk.name,
-        ground.numbers,
+        dynamic.numbers,
         from,
         steps,
     )?;

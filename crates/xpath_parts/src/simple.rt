@@ -8,7 +8,7 @@ ghost use Rattle.xpath_plan.specs.Plans.{simple_seen};
 ghost use Rattle.xpath_parts.specs.Contexts.{IsReady, value_in, count};
 
 use crate::calling::called;
-use crate::ground::Ground;
+use crate::dynamic::DynamicContext;
 use crate::values::Values;
 use inv_base::{Steps, Txt};
 use inv_decimal::Dec;
@@ -16,7 +16,7 @@ use std::alloc::Global;
 use std::sync::ledger::Ledger;
 use xpath_items::{Fault, Focus, Item, Seq, Str};
 use xpath_operators::one;
-use xpath_plan::work::Simple;
+use xpath_plan::plan_node::Simple;
 use xpath_steps::{bound_at, root_of, step_from, stepped_from};
 use xpath_tokens::token::Number;
 use xpath_walks::Step;
@@ -45,63 +45,63 @@ fn item<'a>(alloc: Global, item: &Item<'a>) -> Result<Seq<'a>, Fault>
 
 /// The value of an expression without parts.
 pub fn simple<'a, L: Ledger>(
-    ground: &Ground<'_, 'a>,
+    dynamic: &DynamicContext<'_, 'a>,
     x: &'a Simple,
     focus: &Focus<'a>,
     bound: &[Item<'a>],
     steps: &mut Steps<L>,
 ) -> Result<Seq<'a>, Fault>
-    requires { IsReady ground.now focus.now bound.now }
-    ensures value { Gives result (value_in ground.now (simple_seen ground.now.names.now x.now) focus.now bound.now) }
-    ensures within { IfOk result (λ items. AreWithin (count ground.now) items) }
+    requires { IsReady dynamic.now focus.now bound.now }
+    ensures value { Gives result (value_in dynamic.now (simple_seen dynamic.now.names.now x.now) focus.now bound.now) }
+    ensures within { IfOk result (λ items. AreWithin (count dynamic.now) items) }
 {
     match x {
-        Simple::Text(t) => text(ground.alloc, t),
-        Simple::Number(n) => number(ground.alloc, *n),
-        Simple::Nothing => Ok(Seq::new(ground.alloc)),
-        Simple::Item => item(ground.alloc, &focus.item),
-        Simple::Root => root_of(ground.alloc, ground.doc, &focus.item),
-        Simple::Variable(height) => bound_at(ground.alloc, bound, *height),
-        Simple::Outer(name) => ground.env.value_of(ground.alloc, name.as_str()),
+        Simple::Text(t) => text(dynamic.alloc, t),
+        Simple::Number(n) => number(dynamic.alloc, *n),
+        Simple::Nothing => Ok(Seq::new(dynamic.alloc)),
+        Simple::Item => item(dynamic.alloc, &focus.item),
+        Simple::Root => root_of(dynamic.alloc, dynamic.doc, &focus.item),
+        Simple::Variable(height) => bound_at(dynamic.alloc, bound, *height),
+        Simple::Outer(name) => dynamic.env.value_of(dynamic.alloc, name.as_str()),
         Simple::Step(axis, test) => {
             let step = Step {
                 axis: *axis,
                 test,
-                numbers: ground.numbers,
+                numbers: dynamic.numbers,
             };
-            stepped_from(ground.alloc, ground.doc, &step, &focus.item, steps)
+            stepped_from(dynamic.alloc, dynamic.doc, &step, &focus.item, steps)
         }
         Simple::Called(function) => called(
-            ground.alloc,
-            ground.doc,
+            dynamic.alloc,
+            dynamic.doc,
             *function,
             focus,
-            Values::new(ground.alloc),
+            Values::new(dynamic.alloc),
         ),
     }
 }
 
 /// The same, a step's nodes in the order of its axis.
 pub fn simple_in_axis_order<'a, L: Ledger>(
-    ground: &Ground<'_, 'a>,
+    dynamic: &DynamicContext<'_, 'a>,
     x: &'a Simple,
     focus: &Focus<'a>,
     bound: &[Item<'a>],
     steps: &mut Steps<L>,
 ) -> Result<Seq<'a>, Fault>
-    requires { IsReady ground.now focus.now bound.now }
-    ensures value { Gives result (value_in ground.now (in_axis_order (simple_seen ground.now.names.now x.now)) focus.now bound.now) }
-    ensures within { IfOk result (λ items. AreWithin (count ground.now) items) }
+    requires { IsReady dynamic.now focus.now bound.now }
+    ensures value { Gives result (value_in dynamic.now (in_axis_order (simple_seen dynamic.now.names.now x.now)) focus.now bound.now) }
+    ensures within { IfOk result (λ items. AreWithin (count dynamic.now) items) }
 {
     match x {
         Simple::Step(axis, test) => {
             let step = Step {
                 axis: *axis,
                 test,
-                numbers: ground.numbers,
+                numbers: dynamic.numbers,
             };
-            step_from(ground.alloc, ground.doc, &step, &focus.item, steps)
+            step_from(dynamic.alloc, dynamic.doc, &step, &focus.item, steps)
         }
-        _ => simple(ground, x, focus, bound, steps),
+        _ => simple(dynamic, x, focus, bound, steps),
     }
 }

@@ -9,7 +9,7 @@ ghost use Rattle.xpath_steps.specs.Lending.{lent_value};
 use std::alloc::Global;
 use xpath_grammar::functions::Function;
 use xpath_items::{Fault, Item, Seq};
-use xpath_plan::work::Kind;
+use xpath_plan::plan_node::Operation;
 use xpath_steps::Lent;
 use xpath_values::{count, empty, exists};
 
@@ -22,7 +22,7 @@ pub enum Sizing {
 }
 
 fn sizing_of(function: Function) -> Option<Sizing>
-    ensures { IfSome result (λ sizing. spec.IsSizing (Kind.Call function) sizing) }
+    ensures { IfSome result (λ sizing. spec.IsSizing (Operation.Call function) sizing) }
 {
     match function {
         Function::Exists => Some(Sizing::Exists),
@@ -33,11 +33,11 @@ fn sizing_of(function: Function) -> Option<Sizing>
 }
 
 /// What a kind tells that is such a call.
-pub fn sizing_in(kind: &Kind) -> Option<Sizing>
+pub fn sizing_in(kind: &Operation) -> Option<Sizing>
     ensures { IfSome result (λ sizing. spec.IsSizing kind.now sizing) }
 {
     match kind {
-        Kind::Call(function) => sizing_of(*function),
+        Operation::Call(function) => sizing_of(*function),
         _ => None,
     }
 }

@@ -10,7 +10,7 @@ use Rattle.xpath_types.specs.Refusals.{first_of}
 use Rattle.xpath_types.specs.Scopes.{Declared}
 use Rattle.xpath_types.specs.Typing.{Typing, typing_of, answer, outermost}
 use Rattle.xpath_meaning.specs.Resolving.{resolved}
-use Rattle.xpath_plan.specs.declared.work.Work.{Work}
+use Rattle.xpath_plan.specs.declared.plan_node.PlanNode.{PlanNode}
 use Rattle.xpath_plan.specs.Plans.{seen}
 use Rattle.xpath_plan.specs.Claims.{Kept, Known, known, AreNumbered, IsFree, IsPlaced, IsSound}
 use Rattle.xpath_plan.specs.Shapes.{shapes, apart, count_kept}
@@ -41,7 +41,7 @@ grammatical-typed declared x typing h = subst Grammatical
     (ap (λ (t : Typing). t.expression) (answered declared x typing (first_of None (judged (outermost declared) 0 x).refusals) h))
 
 -- what is known of the work by all later names, at the beginning of the walk
-pub known-first : (declared : Declared) (x y : Tree) (bound : List (List ℕ)) (parts : List Part) (names : List Name) (work : Work) → bound ≡ [] → y ≡ x
+pub known-first : (declared : Declared) (x y : Tree) (bound : List (List ℕ)) (parts : List Part) (names : List Name) (work : PlanNode) → bound ≡ [] → y ≡ x
     → ((later : List Name) → known (names ++ later) work ≡ walked declared bound parts 0 y) → known names work ≡ walked declared [] parts 0 x
 known-first declared x y bound parts names work none same is =
     ap (λ names. known names work) (sym (append-nil names)) ∙ (is [] ∙ (λ j. walked declared (none j) parts 0 (same j)))
@@ -51,7 +51,7 @@ pub counted-first : (declared : Declared) (x y : Tree) (bound : List (List ℕ))
 counted-first declared x y bound parts slots none same is =
     is ∙ (zero-add (length (walked declared bound parts 0 y).kept) ∙ (λ j. length (walked declared (none j) parts 0 (same j)).kept))
 
-module _ (declared : Declared) (x : Tree) (parts : List Part) (names : List Name) (work : Work) (slots : ℕ)
+module _ (declared : Declared) (x : Tree) (parts : List Part) (names : List Name) (work : PlanNode) (slots : ℕ)
     (stated : parts ≡ map facts (placed (outermost declared) 0 x))
     (is : known names work ≡ walked declared [] parts 0 x) (count : slots ≡ length (walked declared [] parts 0 x).kept) where
   ended : parts ≡ map facts (placed (outermost declared) 0 x) ++ []

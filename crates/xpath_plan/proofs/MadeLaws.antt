@@ -19,15 +19,15 @@ use Rattle.xpath_meaning.specs.Expressions as e
 use Rattle.xpath_meaning.specs.Expressions.{Exp}
 use Rattle.xpath_meaning.specs.Resolving.{Operand, linked, chained_on, chained, bound_all, chosen_of, first_part, signed_of, kept_of, in_axis_order}
 use Rattle.xpath_meaning.specs.Resolving.{filtered_of, arguments_of, call_of, called_of, cast_of, combined}
-use Rattle.xpath_plan.specs.declared.work.Link.{Link}
+use Rattle.xpath_plan.specs.declared.plan_node.Separator.{Separator}
 use Rattle.xpath_plan.specs.Plans.{label_of, made}
 use Rattle.xpath_plan.specs.Kinds.{link_of, cast_kind, call_kind, pattern_kind, matches_kind, named_kind, kind_of}
 
 -- parts with what is kept of what leads to them, and back
-abbrev pub links : List Operand → List (Link × Exp)
+abbrev pub links : List Operand → List (Separator × Exp)
 links parts = map (λ part. (link_of part.0, part.1)) parts
 
-abbrev pub labelled : List (Link × Exp) → List Operand
+abbrev pub labelled : List (Separator × Exp) → List Operand
 labelled parts = map (λ part. (label_of part.0, part.1)) parts
 
 -- with what tells of each label

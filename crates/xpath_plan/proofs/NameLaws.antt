@@ -9,7 +9,7 @@ use Rattle.inv_base.specs.Tree.{Name}
 use Rattle.xpath_meaning.specs.Expressions as e
 use Rattle.xpath_meaning.specs.Expressions.{NodeTest}
 use Rattle.xpath_plan.specs.declared.names.Kept.{Kept}
-use Rattle.xpath_plan.specs.declared.work.StepTest.TheVariants as t
+use Rattle.xpath_plan.specs.declared.plan_node.StepTest.TheVariants as t
 use Rattle.xpath_plan.specs.Names.{name_of, names_of}
 use Rattle.xpath_plan.specs.Plans.{test_seen}
 

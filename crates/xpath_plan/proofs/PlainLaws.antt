@@ -14,14 +14,14 @@ use Rattle.xpath_types.specs.Functions.{function_called, type_named}
 use Rattle.xpath_types.specs.Judging.{is_matches}
 use Rattle.xpath_types.specs.Scopes.{Declared}
 use Rattle.xpath_meaning.specs.Resolving.{Operand}
-use Rattle.xpath_plan.specs.declared.work.Link.{Link}
-use Rattle.xpath_plan.specs.declared.work.Kind.{Kind}
-use Rattle.xpath_plan.specs.declared.work.Kind.TheVariants as m
+use Rattle.xpath_plan.specs.declared.plan_node.Separator.{Separator}
+use Rattle.xpath_plan.specs.declared.plan_node.Operation.{Operation}
+use Rattle.xpath_plan.specs.declared.plan_node.Operation.TheVariants as m
 use Rattle.xpath_plan.specs.Kinds.{cast_kind, call_kind, pattern_kind, matches_kind, named_kind, signs_kind, called_kind, kind_of, filter_kind}
 use Rattle.xpath_plan.specs.Shapes.{Place, value}
 use Rattle.xpath_plan.specs.Claims.{Known, own_kept, own_free, shown_of, shown_parts}
 
-abbrev plain : Kind → Bool
+abbrev plain : Operation → Bool
 plain (m.Once slot height) = false
 plain m.FreeStep = false
 plain m.FilteredStep = false
@@ -72,12 +72,12 @@ plain-form declared f.Call is_step free second labels h = plain-called declared 
 plain-form declared _ is_step free second labels h = refl
 
 -- It keeps no value, says of no predicate that it tests no position, and its value is no step's.
-pub record IsPlain (kind : Kind) : Type 0 where
-  pub shown : (place : Place) (parts : List (Link × Known)) → shown_of kind place parts ≡ record { shape = value; once = false } ∷ shown_parts true parts
+pub record IsPlain (kind : Operation) : Type 0 where
+  pub shown : (place : Place) (parts : List (Separator × Known)) → shown_of kind place parts ≡ record { shape = value; once = false } ∷ shown_parts true parts
   pub kept : (parts : List Operand) → own_kept kind parts ≡ []
   pub free : (parts : List Operand) → own_free kind parts ≡ []
 
-is-plain : (kind : Kind) → plain kind ≡ true → IsPlain kind
+is-plain : (kind : Operation) → plain kind ≡ true → IsPlain kind
 is-plain (m.Once slot height) h = absurd (false≢true h)
 is-plain m.FreeStep h = absurd (false≢true h)
 is-plain m.FilteredStep h = absurd (false≢true h)

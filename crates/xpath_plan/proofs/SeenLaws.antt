@@ -16,15 +16,15 @@ use Rattle.xpath_types.specs.Judging.{labels}
 use Rattle.xpath_types.specs.Scopes.{Declared}
 use Rattle.xpath_meaning.specs.Expressions.{Exp}
 use Rattle.xpath_meaning.specs.Resolving.{names_behind, begins_with_step, leaf_of}
-use Rattle.xpath_plan.specs.declared.work.Simple.{Simple}
-use Rattle.xpath_plan.specs.declared.work.Link.{Link}
-use Rattle.xpath_plan.specs.declared.work.Link.TheVariants as l
-use Rattle.xpath_plan.specs.declared.work.Kind.{Kind}
-use Rattle.xpath_plan.specs.declared.work.Kind.TheVariants as m
-use Rattle.xpath_plan.specs.declared.work.Work.{Work, map-Work}
-use Rattle.xpath_plan.specs.declared.work.Work.TheOpen.{Work-F}
-use Rattle.xpath_plan.specs.declared.work.Work.TheFolds.{fold-roll-Work, ind-Work}
-use Rattle.xpath_plan.specs.declared.work.Work.TheVariants as w
+use Rattle.xpath_plan.specs.declared.plan_node.Simple.{Simple}
+use Rattle.xpath_plan.specs.declared.plan_node.Separator.{Separator}
+use Rattle.xpath_plan.specs.declared.plan_node.Separator.TheVariants as l
+use Rattle.xpath_plan.specs.declared.plan_node.Operation.{Operation}
+use Rattle.xpath_plan.specs.declared.plan_node.Operation.TheVariants as m
+use Rattle.xpath_plan.specs.declared.plan_node.PlanNode.{PlanNode, map-PlanNode}
+use Rattle.xpath_plan.specs.declared.plan_node.PlanNode.TheOpen.{PlanNode-F}
+use Rattle.xpath_plan.specs.declared.plan_node.PlanNode.TheFolds.{fold-roll-PlanNode, ind-PlanNode}
+use Rattle.xpath_plan.specs.declared.plan_node.PlanNode.TheVariants as w
 use Rattle.xpath_plan.specs.Plans.{label_of, simple_seen, made, seen_step, seen}
 use Rattle.xpath_plan.specs.Claims.{Kept, Known, known_alone, known_node, known_step, known, operands_known, kept_known}
 use Rattle.xpath_plan.specs.Kinds.{link_of, kind_of, second_literal}
@@ -33,17 +33,18 @@ use Rattle.xpath_plan.specs.Walking.{size, sizes, is_kept_by, is_free_by, all_fr
 use Rattle.xpath_plan.proofs.WalkLaws.{node-kept, node-length, leaf-length}
 
 -- each part with what is known of it
-abbrev pub known_all : List Name → List (Link × Work) → List (Link × Known)
+abbrev pub known_all : List Name → List (Separator × PlanNode) → List (Separator × Known)
 known_all names works = map (λ part. (part.0, known names part.1)) works
 
 pub known-simple : (names : List Name) (x : Simple) → known names (w.Simple x) ≡ known_alone (simple_seen names x)
-known-simple names x = ap (known names) (sym (w.rolls-Simple x)) ∙ fold-roll-Work Known (known_step names) (Work-F.Simple x)
+known-simple names x = ap (known names) (sym (w.rolls-Simple x)) ∙ fold-roll-PlanNode Known (known_step names) (PlanNode-F.Simple x)
 
-pub known-node : (names : List Name) (kind : Kind) (works : List (Link × Work)) → known names (w.Node kind works) ≡ known_node kind (known_all names works)
-known-node names kind works = ap (known names) (sym (w.rolls-Node kind works)) ∙ fold-roll-Work Known (known_step names) (Work-F.Node kind works)
+pub known-node : (names : List Name) (kind : Operation) (works : List (Separator × PlanNode)) → known names (w.Node kind works)
+    ≡ known_node kind (known_all names works)
+known-node names kind works = ap (known names) (sym (w.rolls-Node kind works)) ∙ fold-roll-PlanNode Known (known_step names) (PlanNode-F.Node kind works)
 
 -- a work in its slot
-pub slot-known : (names : List Name) (slot height : ℕ) (works : List (Link × Work)) (work : Work) → works ≡ (l.Other, work) ∷ [] →
+pub slot-known : (names : List Name) (slot height : ℕ) (works : List (Separator × PlanNode)) (work : PlanNode) → works ≡ (l.Other, work) ∷ [] →
     known names (w.Node (m.Once slot height) works) ≡ kept_if true slot height (known names work)
 slot-known names slot height works work is = known-node names (m.Once slot height) works ∙
     ap (λ works. known_node (m.Once slot height) (known_all names works)) is
@@ -51,28 +52,29 @@ slot-known names slot height works work is = known-node names (m.Once slot heigh
 -- The expression that is known of a work is the work's.
 
 abbrev Agreeing : List Name → Type 0
-Agreeing names = (work : Work) × ((known names work).exp ≡ seen names work)
+Agreeing names = (work : PlanNode) × ((known names work).exp ≡ seen names work)
 
-abbrev works_of : (names : List Name) → List (Link × Agreeing names) → List (Link × Work)
-works_of names parts = map (λ (p : Link × Agreeing names). (p.0, p.1.0)) parts
+abbrev works_of : (names : List Name) → List (Separator × Agreeing names) → List (Separator × PlanNode)
+works_of names parts = map (λ (p : Separator × Agreeing names). (p.0, p.1.0)) parts
 
-operands-agree : (names : List Name) (parts : List (Link × Agreeing names))
-    → operands_known (known_all names (works_of names parts)) ≡ map (λ (p : Link × Exp). (label_of p.0, p.1))
-    (map (λ (p : Link × Work). (p.0, seen names p.1)) (works_of names parts))
+operands-agree : (names : List Name) (parts : List (Separator × Agreeing names))
+    → operands_known (known_all names (works_of names parts)) ≡ map (λ (p : Separator × Exp). (label_of p.0, p.1))
+    (map (λ (p : Separator × PlanNode). (p.0, seen names p.1)) (works_of names parts))
 operands-agree names [] = refl
 operands-agree names (part ∷ parts) = λ j. (label_of part.0, part.1.1 j) ∷ operands-agree names parts j
 
-step-agrees : (names : List Name) (y : Work-F (Agreeing names))
-    → (known_step names (map-Work Work Known (known names) (map-Work (Agreeing names) Work (λ e. e.0) y))).exp
-    ≡ seen_step names (map-Work Work Exp (seen names) (map-Work (Agreeing names) Work (λ e. e.0) y))
-step-agrees names (Work-F.Simple x) = refl
-step-agrees names (Work-F.Node kind parts) = ap (made kind) (operands-agree names parts)
+step-agrees : (names : List Name) (y : PlanNode-F (Agreeing names))
+    → (known_step names (map-PlanNode PlanNode Known (known names) (map-PlanNode (Agreeing names) PlanNode (λ e. e.0) y))).exp
+    ≡ seen_step names (map-PlanNode PlanNode Exp (seen names) (map-PlanNode (Agreeing names) PlanNode (λ e. e.0) y))
+step-agrees names (PlanNode-F.Simple x) = refl
+step-agrees names (PlanNode-F.Node kind parts) = ap (made kind) (operands-agree names parts)
 
-pub known-exp : (names : List Name) (work : Work) → (known names work).exp ≡ seen names work
-known-exp names = ind-Work (λ work. (known names work).exp ≡ seen names work) (λ x y is.
-    ap (λ (part : Known). part.exp) (fold-roll-Work Known (known_step names) x)
-    ∙ (subst (λ z. (known_step names (map-Work Work Known (known names) z)).exp ≡ seen_step names (map-Work Work Exp (seen names) z)) is (step-agrees names y)
-    ∙ sym (fold-roll-Work Exp (seen_step names) x)))
+pub known-exp : (names : List Name) (work : PlanNode) → (known names work).exp ≡ seen names work
+known-exp names = ind-PlanNode (λ work. (known names work).exp ≡ seen names work) (λ x y is.
+    ap (λ (part : Known). part.exp) (fold-roll-PlanNode Known (known_step names) x)
+    ∙ (subst (λ z. (known_step names (map-PlanNode PlanNode Known (known names) z)).exp ≡ seen_step names (map-PlanNode PlanNode Exp (seen names) z)) is
+        (step-agrees names y)
+    ∙ sym (fold-roll-PlanNode Exp (seen_step names) x)))
 
 -- Tables that grow
 
@@ -97,7 +99,7 @@ still-grown first names names' grown more =
 -- What a turn of the loop keeps: what is known of the parts so far, whether their predicates test no position, how many parts were
 -- passed, and how many are kept.
 pub record Goes (declared : Declared) (stated : List Part) (outer bound : List (List ℕ)) (first names : List Name) (parts : List (Label × Expr)) (i : ℕ)
-    (works : List (Link × Work)) (height : ℕ)
+    (works : List (Separator × PlanNode)) (height : ℕ)
     (begin before low slots : ℕ) (free : Bool) : Type 0 where
   pub whole : (later : List Name) → known_all (names ++ later) works ++
       walked_inside declared bound (drop before stated) slots (viewed (drop i parts)) ≡ walked_inside declared outer (drop begin stated) low (viewed parts)
@@ -130,7 +132,7 @@ module _ (declared : Declared) (stated : List Part) (bound : List (List ℕ)) (n
   behind : drop before' stated ≡ drop (size (view part.1)) (drop before stated)
   behind = ap (λ n. drop n stated) before_is ∙ sym (drop-drop (size (view part.1)) before stated)
 
-  abbrev rest : List (Link × Known)
+  abbrev rest : List (Separator × Known)
   rest = walked_inside declared bound' (drop before' stated) slots' (viewed (drop (i + 1) parts))
 
   opened : walked_inside declared bound (drop before stated) slots (viewed (drop i parts)) ≡ (link_of part.0, this) ∷ rest
@@ -143,13 +145,14 @@ module _ (declared : Declared) (stated : List Part) (bound : List (List ℕ)) (n
       ∙ (λ j. (link_of part.0, walked declared bound (drop before stated) slots (view part.1)) ∷ walked_inside declared (names_are j) (stated_are j)
       (count_is j) (viewed (drop (i + 1) parts)))
 
-  pub step : (works works' : List (Link × Work)) (work : Work) (all : List (Link × Known)) (link : Link) → take (length names) names' ≡ names
+  pub step : (works works' : List (Separator × PlanNode)) (work : PlanNode) (all : List (Separator × Known)) (link : Separator) → take (length names) names'
+      ≡ names
       → ((later : List Name) → known_all (names ++ later) works ++ walked_inside declared bound (drop before stated) slots (viewed (drop i parts)) ≡ all)
       → ((later : List Name) → known (names' ++ later) work ≡ walked declared bound (drop before stated) slots (view part.1))
       → link ≡ link_of part.0 → works' ≡ works ++ (link, work) ∷ [] → (later : List Name) → known_all (names' ++ later) works' ++ rest ≡ all
   unfolding this
   step works works' work all link grown whole is link_is pushed later =
-      let front : List (Link × Known) = known_all (names' ++ later) works in
+      let front : List (Separator × Known) = known_all (names' ++ later) works in
       ap (λ works. known_all (names' ++ later) works ++ rest) pushed
       ∙ (ap (λ seen. seen ++ rest) (map-append (λ part. (part.0, known (names' ++ later) part.1)) works ((link, work) ∷ []))
       ∙ (append_assoc front ((link, known (names' ++ later) work) ∷ []) rest
@@ -187,10 +190,10 @@ viewed-labels [] = refl
 viewed-labels (part ∷ parts) = λ j. part.0 ∷ viewed-labels parts j
 
 module _ (declared : Declared) (stated : List Part) (outer bound : List (List ℕ)) (first names : List Name) (parts : List (Label × Expr)) (i : ℕ)
-    (works : List (Link × Work)) (height : ℕ)
+    (works : List (Separator × PlanNode)) (height : ℕ)
     (begin before low slots : ℕ) (free : Bool) (goes : Goes declared stated outer bound first names parts i works height begin before low slots free)
     (h : length parts ≤ i) where
-  abbrev inner : List (Link × Known)
+  abbrev inner : List (Separator × Known)
   inner = walked_inside declared outer (drop begin stated) low (viewed parts)
 
   none : viewed (drop i parts) ≡ g.none
@@ -239,7 +242,7 @@ module _ (declared : Declared) (stated : List Part) (outer bound : List (List �
       omega (arith, is, one, all, whole)
 
   -- the work of the whole, in its slot where it is kept
-  pub node-known : (form : Form) (kind : Kind) (ahead : ℕ) (keeps : Bool) (kept : Work) (later : List Name)
+  pub node-known : (form : Form) (kind : Operation) (ahead : ℕ) (keeps : Bool) (kept : PlanNode) (later : List Name)
       → kind ≡ kind_of declared form (begins_with_step (viewed parts)) free (second_literal (viewed parts)) (map (λ part. part.0) parts)
       → begin ≡ ahead + 1 → height ≡ length outer → keeps ≡ is_kept_by (drop ahead stated) (g.node form (viewed parts))
       → known (names ++ later) kept ≡ kept_if keeps slots height (known (names ++ later) (w.Node kind works))
@@ -261,7 +264,7 @@ module _ (declared : Declared) (stated : List Part) (outer bound : List (List �
 
 -- the work of a part without parts, in its slot where it is kept
 pub leaf-known : (declared : Declared) (stated : List Part) (bound : List (List ℕ)) (names : List Name) (ahead low slots height : ℕ) (x : Leaf) (keeps : Bool)
-    (work kept : Work)
+    (work kept : PlanNode)
     → slots ≡ low → height ≡ length bound → keeps ≡ is_kept_by (drop ahead stated) (g.leaf x) → known names work ≡ known_alone (leaf_of declared bound x)
     → known names kept ≡ kept_if keeps slots height (known names work) → known names kept ≡ walked declared bound (drop ahead stated) low (g.leaf x)
 unfolding walked

@@ -19,7 +19,7 @@ use Rattle.xpath_meaning.specs.Expressions.{Exp}
 use Rattle.xpath_meaning.specs.Meaning.{Context, mean, at}
 use Rattle.xpath_meaning.specs.Resolving.{Operand, leaf_of, resolved, names_behind, begins_with_step}
 use Rattle.xpath_meaning.specs.Uses.{IsAtNode}
-use Rattle.xpath_plan.specs.declared.work.Link.{Link}
+use Rattle.xpath_plan.specs.declared.plan_node.Separator.{Separator}
 use Rattle.xpath_plan.specs.Kinds.{filter_kind, second_literal}
 use Rattle.xpath_plan.specs.Shapes.{is_kept, is_free, is_literal}
 use Rattle.xpath_plan.specs.Claims.{Kept, Known, IsSteady, IsFree, IsPlaced, AreNumbered, known_alone, known_node, operands_known, expressions, kept_known}
@@ -104,7 +104,7 @@ module _ (alone : Alone) where
         kept-steady (is_kept_by stated (g.leaf x)) (slots + length part.kept) (length bound) part tt
         (one-steady env bound token (slots + length part.kept) (g.leaf x) stated rest (leaf_of env.declared bound x) is h refl)
     steady env bound token slots (g.node form parts) stated rest is h =
-        let inner : List (Link × Known) = walked_inside env.declared bound (drop 1 stated) slots parts in
+        let inner : List (Separator × Known) = walked_inside env.declared bound (drop 1 stated) slots parts in
         let part : Known = known_node (kind_in env.declared form (drop 1 stated) parts) inner in
         kept-steady (is_kept_by stated (g.node form parts)) (slots + length part.kept) (length bound) part
         (subst (AllByRecursion IsSteady) (sym (node-kept env.declared form (drop 1 stated) parts inner))
@@ -217,7 +217,7 @@ module _ (moving : Moving) where
         let part : Known = known_alone (leaf_of env.declared bound x) in
         kept-free (is_kept_by stated (g.leaf x)) (slots + length part.kept) (length bound) part tt
     free env bound token slots (g.node form parts) stated rest is h =
-        let inner : List (Link × Known) = walked_inside env.declared bound (drop 1 stated) slots parts in
+        let inner : List (Separator × Known) = walked_inside env.declared bound (drop 1 stated) slots parts in
         let part : Known = known_node (kind_in env.declared form (drop 1 stated) parts) inner in
         let inside_is = st.stated-inside env token form parts stated rest is in
         kept-free (is_kept_by stated (g.node form parts)) (slots + length part.kept) (length bound) part

@@ -30,7 +30,7 @@ use Rattle.xpath_types.specs.Scopes.{Declared, written_name, uri_of}
 use Rattle.xpath_meaning.specs.Expressions as e
 use Rattle.xpath_meaning.specs.Expressions.{Exp, NodeTest}
 use Rattle.xpath_meaning.specs.Resolving.{axis_of, test_of, step_of, in_uri, call_of, variable_in, leaf_of, names_behind, begins_with_step}
-use Rattle.xpath_plan.specs.declared.work.Link.{Link}
+use Rattle.xpath_plan.specs.declared.plan_node.Separator.{Separator}
 use Rattle.xpath_plan.specs.Kinds.{link_of, filter_kind, second_literal}
 use Rattle.xpath_plan.specs.Shapes as s
 use Rattle.xpath_plan.specs.Shapes.{Shape, Shaped, Place, value, step, apart, at_head, between, place_of, step_shape, leaf_shape, filter_shape, form_shape}
@@ -248,7 +248,7 @@ filter-is declared bound stated slots place free (g.more label (g.leaf l.Parent)
     step-filtered declared bound stated slots place label l.Parent parts free
 filter-is declared bound stated slots place free (g.more label (g.leaf _) parts) = refl
 
-filter-shown : (is_step free : Bool) (place : Place) (inner : List (Link × Known))
+filter-shown : (is_step free : Bool) (place : Place) (inner : List (Separator × Known))
     → shown_of (filter_kind is_step free) place inner ≡ record {
       shape = own_shape (filter_kind is_step free) place inner;
       once =
@@ -263,7 +263,7 @@ node-shown : (declared : Declared) (bound : List (List ℕ)) (stated : List Part
     ≡ record { shape = form_shape declared place (all_free_by stated parts) form parts; once = false } ∷ shown_parts true
     (walked_inside declared bound stated slots parts)
 node-shown declared bound stated slots place f.Filter parts =
-    let inner : List (Link × Known) = walked_inside declared bound stated slots parts in
+    let inner : List (Separator × Known) = walked_inside declared bound stated slots parts in
     filter-shown (begins_with_step parts) (all_free_by stated parts) place inner
     ∙ ap (λ shape. record { shape = shape; once = false } ∷ shown_parts true inner)
     (filter-is declared bound stated slots place (all_free_by stated parts) parts)
@@ -291,7 +291,7 @@ mutual
       ∙ (λ j. record { shape = leaf-is env.declared bound place x j; once = kept-stated env token (g.leaf x) stated rest is j } ∷ [])
   shown-is env bound token slots place (g.node form parts) stated rest is =
       let inside_is : drop 1 stated ≡ map facts (placed_inside env form token parts) ++ rest = stated-inside env token form parts stated rest is in
-      let inner : List (Link × Known) = walked_inside env.declared bound (drop 1 stated) slots parts in
+      let inner : List (Separator × Known) = walked_inside env.declared bound (drop 1 stated) slots parts in
       let part : Known = known_node (kind_in env.declared form (drop 1 stated) parts) inner in
       head-kept (is_kept_by stated (g.node form parts)) (slots + length part.kept) (length bound) part place
       (form_shape env.declared place (all_free_by (drop 1 stated) parts) form parts) (shown_parts true inner)
@@ -311,7 +311,7 @@ mutual
       let inner : Environment = within env form token label x parts in
       let begin : ℕ = first_token env form token label x parts in
       let part : Known = walked env.declared bound stated slots x in
-      let others : List (Link × Known) = walked_inside env.declared (names_behind label bound) (drop (size x) stated) (slots + length part.kept) parts in
+      let others : List (Separator × Known) = walked_inside env.declared (names_behind label bound) (drop (size x) stated) (slots + length part.kept) parts in
       ap (λ place. part.shown place ++ shown_parts false others) (place-same first label)
       ∙ (λ j. shown-is inner bound begin slots (place_of first label) x stated _ (here env form token label x parts stated rest is) j
       ++ inside-shown (beyond env form token label x parts) (names_behind label bound) form (next_token env form token label x parts)
@@ -356,7 +356,7 @@ mutual
       let next : Environment = beyond env form token label x parts in
       let end : ℕ = next_token env form token label x parts in
       let part : Known = walked env.declared bound stated slots x in
-      let others : List (Link × Known) = walked_inside env.declared (names_behind label bound) (drop (size x) stated) (slots + length part.kept) parts in
+      let others : List (Separator × Known) = walked_inside env.declared (names_behind label bound) (drop (size x) stated) (slots + length part.kept) parts in
       length-append part.kept (kept_known others)
       ∙ ((λ j. counted inner bound begin slots (place_of first label) x stated _ (here env form token label x parts stated rest is) j
       + inside-counted next (names_behind label bound) form end (slots + length part.kept) false parts (drop (size x) stated) rest

@@ -9,8 +9,8 @@ use Rattle.xpath_types.specs.declared.part.Part.{Part}
 use Rattle.xpath_types.specs.Judging.{labels}
 use Rattle.xpath_types.specs.Scopes.{Declared}
 use Rattle.xpath_meaning.specs.Resolving.{Operand, leaf_of, resolved, operands, names_behind, begins_with_step}
-use Rattle.xpath_plan.specs.declared.work.Link.{Link}
-use Rattle.xpath_plan.specs.declared.work.Kind.{Kind}
+use Rattle.xpath_plan.specs.declared.plan_node.Separator.{Separator}
+use Rattle.xpath_plan.specs.declared.plan_node.Operation.{Operation}
 use Rattle.xpath_plan.specs.Kinds.{link_of, kind_of, second_literal}
 use Rattle.xpath_plan.specs.Plans.{label_of, made}
 use Rattle.xpath_plan.specs.Claims.{Kept, Known, AreNumbered, known_alone, known_node, kept_known, operands_known, deepest}
@@ -41,8 +41,8 @@ mutual
       (walked declared bound stated slots x).exp ≡ resolved declared bound x
   walked-exp declared bound stated slots (g.leaf x) = finished-exp bound stated slots (g.leaf x) (known_alone (leaf_of declared bound x))
   walked-exp declared bound stated slots (g.node form parts) =
-      let kind : Kind = kind_in declared form (drop 1 stated) parts in
-      let inner : List (Link × Known) = walked_inside declared bound (drop 1 stated) slots parts in
+      let kind : Operation = kind_in declared form (drop 1 stated) parts in
+      let inner : List (Separator × Known) = walked_inside declared bound (drop 1 stated) slots parts in
       finished-exp bound stated slots (g.node form parts) (known_node kind inner)
       ∙ (ap (made kind) (inside-exp declared bound (drop 1 stated) slots parts)
       ∙ (ap (λ labels. made (kind_of declared form (begins_with_step parts) (all_free_by (drop 1 stated) parts) (second_literal parts) labels)
@@ -78,7 +78,7 @@ pub finished-length : (bound : List (List ℕ)) (stated : List Part) (slots : �
 finished-length bound stated slots x part = kept_if-length (is_kept_by stated x) (slots + length part.kept) (length bound) part
 
 -- a node keeps what its parts keep
-pub node-kept : (declared : Declared) (form : Form) (stated : List Part) (parts : Parts) (inner : List (Link × Known)) →
+pub node-kept : (declared : Declared) (form : Form) (stated : List Part) (parts : Parts) (inner : List (Separator × Known)) →
     (known_node (kind_in declared form stated parts) inner).kept ≡ kept_known inner
 node-kept declared form stated parts inner =
     ap (λ own. kept_known inner ++ own) (form-keeps declared form (begins_with_step parts) (all_free_by stated parts) (second_literal parts) (labels parts)
@@ -98,7 +98,7 @@ pub node-length : (declared : Declared) (bound : List (List ℕ)) (stated : List
     (kept_known (walked_inside declared bound (drop 1 stated) slots parts)) + one_if (is_kept_by stated (g.node form parts))
 unfolding walked
 node-length declared bound stated slots form parts =
-    let inner : List (Link × Known) = walked_inside declared bound (drop 1 stated) slots parts in
+    let inner : List (Separator × Known) = walked_inside declared bound (drop 1 stated) slots parts in
     let node : Known = known_node (kind_in declared form (drop 1 stated) parts) inner in
     finished-length bound stated slots (g.node form parts) node ∙ ap (λ (kept : List Kept). length kept + one_if (is_kept_by stated (g.node form parts)))
     (node-kept declared form (drop 1 stated) parts inner)
@@ -125,7 +125,7 @@ mutual
   numbered declared bound stated slots (g.leaf x) = kept_if-numbered (is_kept_by stated (g.leaf x)) slots (length bound)
       (known_alone (leaf_of declared bound x)) tt
   numbered declared bound stated slots (g.node form parts) =
-      let inner : List (Link × Known) = walked_inside declared bound (drop 1 stated) slots parts in
+      let inner : List (Separator × Known) = walked_inside declared bound (drop 1 stated) slots parts in
       kept_if-numbered (is_kept_by stated (g.node form parts)) slots (length bound) (known_node (kind_in declared form (drop 1 stated) parts) inner)
       (subst (AreNumbered slots) (sym (node-kept declared form (drop 1 stated) parts inner)) (all_numbered declared bound (drop 1 stated) slots parts))
 
@@ -160,7 +160,7 @@ mutual
       kept_if-depth (is_kept_by stated (g.leaf x)) (slots + length part.kept) (length bound) part in
       omega (arith, most)
   walked-depth declared bound stated slots (g.node form parts) =
-      let inner : List (Link × Known) = walked_inside declared bound (drop 1 stated) slots parts in
+      let inner : List (Separator × Known) = walked_inside declared bound (drop 1 stated) slots parts in
       let node : Known = known_node (kind_in declared form (drop 1 stated) parts) inner in
       doubled _ (deepest inner) (g.deepest parts) (kept_if-depth (is_kept_by stated (g.node form parts)) (slots + length node.kept) (length bound) node)
       (inside-depth declared bound (drop 1 stated) slots parts)

@@ -10,12 +10,12 @@ use Rattle.xpath_meaning.specs.Expressions.{Exp}
 use Rattle.xpath_meaning.specs.Resolving.{Operand, first_part}
 use Rattle.xpath_meaning.specs.Meaning.{Context, mean, at}
 use Rattle.xpath_meaning.specs.Uses.{IsAtNode}
-use Rattle.xpath_plan.specs.declared.work.Link.{Link}
-use Rattle.xpath_plan.specs.declared.work.Link.TheVariants as l
-use Rattle.xpath_plan.specs.declared.work.Kind.{Kind}
-use Rattle.xpath_plan.specs.declared.work.Kind.TheVariants as m
-use Rattle.xpath_plan.specs.declared.work.Work.{Work, fold-Work}
-use Rattle.xpath_plan.specs.declared.work.Work.TheOpen.{Work-F}
+use Rattle.xpath_plan.specs.declared.plan_node.Separator.{Separator}
+use Rattle.xpath_plan.specs.declared.plan_node.Separator.TheVariants as l
+use Rattle.xpath_plan.specs.declared.plan_node.Operation.{Operation}
+use Rattle.xpath_plan.specs.declared.plan_node.Operation.TheVariants as m
+use Rattle.xpath_plan.specs.declared.plan_node.PlanNode.{PlanNode, fold-PlanNode}
+use Rattle.xpath_plan.specs.declared.plan_node.PlanNode.TheOpen.{PlanNode-F}
 use Rattle.xpath_plan.specs.Plans.{Planned, label_of, made, simple_seen}
 use Rattle.xpath_plan.specs.Shapes.{Shape, value, step, Shaped, Place, apart, at_head, between, step_shape}
 
@@ -46,22 +46,22 @@ known_alone x = record { exp = x; shown = λ place. record { shape = exp_shape p
 
 -- With parts
 
-abbrev pub operands_known : List (Link × Known) → List Operand
+abbrev pub operands_known : List (Separator × Known) → List Operand
 operands_known parts = map (λ part. (label_of part.0, part.1.exp)) parts
 
-abbrev pub kept_known : List (Link × Known) → List Kept
+abbrev pub kept_known : List (Separator × Known) → List Kept
 kept_known [] = []
 kept_known (part ∷ parts) = part.1.kept ++ kept_known parts
 
-abbrev pub free_known : List (Link × Known) → List Exp
+abbrev pub free_known : List (Separator × Known) → List Exp
 free_known [] = []
 free_known (part ∷ parts) = part.1.free ++ free_known parts
 
-abbrev pub deepest : List (Link × Known) → ℕ
+abbrev pub deepest : List (Separator × Known) → ℕ
 deepest [] = 0
 deepest (part ∷ parts) = max part.1.depth (deepest parts)
 
-abbrev pub own_kept : Kind → List Operand → List Kept
+abbrev pub own_kept : Operation → List Operand → List Kept
 own_kept (m.Once slot height) parts = record { slot = slot; height = height; exp = first_part parts } ∷ []
 own_kept _ parts = []
 
@@ -69,17 +69,17 @@ abbrev pub expressions : List Operand → List Exp
 expressions parts = map (λ part. part.1) parts
 
 -- the predicates
-abbrev pub own_free : Kind → List Operand → List Exp
+abbrev pub own_free : Operation → List Operand → List Exp
 own_free m.FreeStep (first ∷ predicates) = expressions predicates
 own_free _ parts = []
 
-abbrev pub place_at : Bool → Link → Place
+abbrev pub place_at : Bool → Separator → Place
 place_at true (l.Operator o.DoubleSlash) = at_head
 place_at false (l.Operator o.DoubleSlash) = between
 place_at first link = apart
 
 -- the first of them is the first part of the whole, or none of them is
-abbrev pub shown_parts : Bool → List (Link × Known) → List Shaped
+abbrev pub shown_parts : Bool → List (Separator × Known) → List Shaped
 shown_parts first [] = []
 shown_parts first (part ∷ parts) = part.1.shown (place_at first part.0) ++ shown_parts false parts
 
@@ -88,11 +88,11 @@ head_shape [] = value
 head_shape (part ∷ parts) = part.shape
 
 -- the shape of the first part, where it stands so
-abbrev pub first_shape : Place → List (Link × Known) → Shape
+abbrev pub first_shape : Place → List (Separator × Known) → Shape
 first_shape place [] = value
 first_shape place (part ∷ parts) = head_shape (part.1.shown place)
 
-abbrev pub own_shape : Kind → Place → List (Link × Known) → Shape
+abbrev pub own_shape : Operation → Place → List (Separator × Known) → Shape
 own_shape m.FreeStep place parts = first_shape place parts
 own_shape m.FilteredStep place parts = first_shape apart parts
 own_shape _ place parts = value
@@ -102,15 +102,15 @@ head_kept [] = []
 head_kept (part ∷ parts) = record part { once = true } ∷ parts
 
 -- a part that is kept is no part by itself
-abbrev pub shown_kept : Place → List (Link × Known) → List Shaped
+abbrev pub shown_kept : Place → List (Separator × Known) → List Shaped
 shown_kept place [] = []
 shown_kept place (part ∷ parts) = head_kept (part.1.shown place) ++ shown_parts false parts
 
-abbrev pub shown_of : Kind → Place → List (Link × Known) → List Shaped
+abbrev pub shown_of : Operation → Place → List (Separator × Known) → List Shaped
 shown_of (m.Once slot height) place parts = shown_kept place parts
 shown_of kind place parts = record { shape = own_shape kind place parts; once = false } ∷ shown_parts true parts
 
-abbrev pub known_node : Kind → List (Link × Known) → Known
+abbrev pub known_node : Operation → List (Separator × Known) → Known
 known_node kind parts = record {
   exp = made kind (operands_known parts);
   shown = λ place. shown_of kind place parts;
@@ -121,21 +121,21 @@ known_node kind parts = record {
 
 -- Of a plan
 
-abbrev pub known_step : List Name → Work-F Known → Known
-known_step names (Work-F.Simple x) = known_alone (simple_seen names x)
-known_step names (Work-F.Node kind parts) = known_node kind parts
+abbrev pub known_step : List Name → PlanNode-F Known → Known
+known_step names (PlanNode-F.Simple x) = known_alone (simple_seen names x)
+known_step names (PlanNode-F.Node kind parts) = known_node kind parts
 
-abbrev pub known : List Name → Work → Known
-known names = fold-Work Known (known_step names)
+abbrev pub known : List Name → PlanNode → Known
+known names = fold-PlanNode Known (known_step names)
 
 -- the parts of a work that are kept
-abbrev pub kept_in : List Name → Work → List Kept
+abbrev pub kept_in : List Name → PlanNode → List Kept
 kept_in names work = (known names work).kept
 
 abbrev pub kept_of : Planned → List Kept
 kept_of planned = kept_in planned.names planned.work
 
-abbrev pub free_in : List Name → Work → List Exp
+abbrev pub free_in : List Name → PlanNode → List Exp
 free_in names work = (known names work).free
 
 abbrev pub free_of : Planned → List Exp
@@ -169,7 +169,7 @@ AreNumbered from [] = Unit {0}
 AreNumbered from (part ∷ parts) = (part.slot ≡ from) × AreNumbered (suc from) parts
 
 -- All kept parts of a work are.
-abbrev pub ArePlacedIn : List Kept → List Name → Work → Type 0
+abbrev pub ArePlacedIn : List Kept → List Name → PlanNode → Type 0
 ArePlacedIn parts names work = AllByRecursion (IsPlaced parts) (kept_in names work)
 
 -- What a plan says of its parts is so: each kept part has a slot of its own and one value at all nodes, and each predicate that is said

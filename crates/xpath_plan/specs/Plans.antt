@@ -7,16 +7,16 @@ use Rattle.xpath_grammar.specs.declared.expr.Label.TheVariants as k
 use Rattle.xpath_meaning.specs.Expressions as e
 use Rattle.xpath_meaning.specs.Expressions.{Exp, NodeTest}
 use Rattle.xpath_meaning.specs.Resolving.{Operand, units, step_of, chained, bound_all, chosen_of, first_part, filtered_of, arguments_of}
-use Rattle.xpath_plan.specs.declared.work.StepTest.{StepTest}
-use Rattle.xpath_plan.specs.declared.work.StepTest.TheVariants as t
-use Rattle.xpath_plan.specs.declared.work.Simple.{Simple}
-use Rattle.xpath_plan.specs.declared.work.Simple.TheVariants as s
-use Rattle.xpath_plan.specs.declared.work.Link.{Link}
-use Rattle.xpath_plan.specs.declared.work.Link.TheVariants as l
-use Rattle.xpath_plan.specs.declared.work.Kind.{Kind}
-use Rattle.xpath_plan.specs.declared.work.Kind.TheVariants as m
-use Rattle.xpath_plan.specs.declared.work.Work.{Work, fold-Work}
-use Rattle.xpath_plan.specs.declared.work.Work.TheOpen.{Work-F}
+use Rattle.xpath_plan.specs.declared.plan_node.StepTest.{StepTest}
+use Rattle.xpath_plan.specs.declared.plan_node.StepTest.TheVariants as t
+use Rattle.xpath_plan.specs.declared.plan_node.Simple.{Simple}
+use Rattle.xpath_plan.specs.declared.plan_node.Simple.TheVariants as s
+use Rattle.xpath_plan.specs.declared.plan_node.Separator.{Separator}
+use Rattle.xpath_plan.specs.declared.plan_node.Separator.TheVariants as l
+use Rattle.xpath_plan.specs.declared.plan_node.Operation.{Operation}
+use Rattle.xpath_plan.specs.declared.plan_node.Operation.TheVariants as m
+use Rattle.xpath_plan.specs.declared.plan_node.PlanNode.{PlanNode, fold-PlanNode}
+use Rattle.xpath_plan.specs.declared.plan_node.PlanNode.TheOpen.{PlanNode-F}
 
 -- a test, where its name is in the table
 abbrev pub test_seen : List Name → StepTest → Option NodeTest
@@ -42,13 +42,13 @@ simple_seen names (s.Step axis test) = step_of axis (test_seen names test)
 simple_seen names (s.Called function) = e.called function e.no_more
 
 -- what stands before a part, as the grammar has it
-abbrev pub label_of : Link → Label
+abbrev pub label_of : Separator → Label
 label_of (l.Operator operator) = k.Link operator
 label_of l.Comma = k.Comma
 label_of l.Other = k.First
 
 -- what a kind makes of its parts
-abbrev pub made : Kind → List Operand → Exp
+abbrev pub made : Operation → List Operand → Exp
 made m.Chain parts = chained parts
 made (m.Bound binder) parts = bound_all binder parts
 made m.Conditional parts = chosen_of parts
@@ -64,18 +64,18 @@ made (m.Matches pattern) parts = e.called f.Matches (e.argument (first_part part
 made m.Nothing parts = e.nothing
 
 -- one level, with each part already seen as its expression
-abbrev pub seen_step : List Name → Work-F Exp → Exp
-seen_step names (Work-F.Simple x) = simple_seen names x
-seen_step names (Work-F.Node kind parts) = made kind (map (λ part. (label_of part.0, part.1)) parts)
+abbrev pub seen_step : List Name → PlanNode-F Exp → Exp
+seen_step names (PlanNode-F.Simple x) = simple_seen names x
+seen_step names (PlanNode-F.Node kind parts) = made kind (map (λ part. (label_of part.0, part.1)) parts)
 
 -- the expression of a work, by the names of its plan
-abbrev pub seen : List Name → Work → Exp
-seen names = fold-Work Exp (seen_step names)
+abbrev pub seen : List Name → PlanNode → Exp
+seen names = fold-PlanNode Exp (seen_step names)
 
 -- what contracts see of a plan
 pub record Planned : Type 0 where
   pub names : List Name
-  pub work : Work
+  pub work : PlanNode
   pub slots : ℕ
 
 abbrev pub expression : Planned → Exp

@@ -9,10 +9,10 @@ use Rattle.xpath_types.specs.declared.part.Part.{Part}
 use Rattle.xpath_types.specs.Judging.{labels}
 use Rattle.xpath_types.specs.Scopes.{Declared}
 use Rattle.xpath_meaning.specs.Resolving.{leaf_of, names_behind, begins_with_step}
-use Rattle.xpath_plan.specs.declared.work.Link.{Link}
-use Rattle.xpath_plan.specs.declared.work.Link.TheVariants as l
-use Rattle.xpath_plan.specs.declared.work.Kind.{Kind}
-use Rattle.xpath_plan.specs.declared.work.Kind.TheVariants as m
+use Rattle.xpath_plan.specs.declared.plan_node.Separator.{Separator}
+use Rattle.xpath_plan.specs.declared.plan_node.Separator.TheVariants as l
+use Rattle.xpath_plan.specs.declared.plan_node.Operation.{Operation}
+use Rattle.xpath_plan.specs.declared.plan_node.Operation.TheVariants as m
 use Rattle.xpath_plan.specs.Kinds.{link_of, kind_of, second_literal}
 use Rattle.xpath_plan.specs.Shapes.{is_literal, is_free}
 use Rattle.xpath_plan.specs.Claims.{Known, known_alone, known_node}
@@ -48,7 +48,7 @@ kept_if false slot height part = part
 abbrev pub finished : List (List ℕ) → List Part → ℕ → Tree → Known → Known
 finished bound stated slots x part = kept_if (is_kept_by stated x) (slots + length part.kept) (length bound) part
 
-abbrev pub kind_in : Declared → Form → List Part → Parts → Kind
+abbrev pub kind_in : Declared → Form → List Part → Parts → Operation
 kind_in declared form stated parts = kind_of declared form (begins_with_step parts) (all_free_by stated parts) (second_literal parts) (labels parts)
 
 unfoldable mutual
@@ -59,7 +59,7 @@ unfoldable mutual
       finished bound stated slots (g.node form parts)
       (known_node (kind_in declared form (drop 1 stated) parts) (walked_inside declared bound (drop 1 stated) slots parts))
 
-  pub walked_inside : Declared → List (List ℕ) → List Part → ℕ → Parts → List (Link × Known)
+  pub walked_inside : Declared → List (List ℕ) → List Part → ℕ → Parts → List (Separator × Known)
   walked_inside declared bound stated slots g.none = []
   walked_inside declared bound stated slots (g.more label x parts) =
       let part : Known = walked declared bound stated slots x in

@@ -12,7 +12,7 @@ use crate::forms::{kind_of, link_of};
 use crate::leaves::simple_of;
 use crate::marks::{Marks, keeps_next, kept_work, still_free};
 use crate::names::NameTable;
-use crate::work::{Link, Work};
+use crate::plan_node::{PlanNode, Separator};
 use std::alloc::{AllocError, Global};
 use xpath_grammar::expr::{Expr, Label, Leaf};
 use xpath_grammar::many::Many;
@@ -42,8 +42,8 @@ fn bind(alloc: Global, bound: &mut Heights, label: &Label) -> Result<(), AllocEr
 fn put(
     alloc: Global,
     part: &(Label, Expr),
-    work: Work,
-    works: &mut Many<(Link, Work)>,
+    work: PlanNode,
+    works: &mut Many<(Separator, PlanNode)>,
     bound: &mut Heights,
 ) -> Result<(), AllocError>
     ensures put { OnOk result (works.new ≡ works.old ++ (kinds.link_of part.now.0, work) ∷ []) }
@@ -60,13 +60,13 @@ fn leaf_work(
     scope: &Scope,
     state: &mut State,
     leaf: &Leaf,
-) -> Result<Work, AllocError>
+) -> Result<PlanNode, AllocError>
     ensures work { IfOk result (λ work. (later : List Name) →
         known (state.new.names ++ later) work ≡ known_alone (meaning.leaf_of scope.now state.old.bound leaf.now)) }
     ensures grown { OnOk result (take (length state.old.names) state.new.names ≡ state.old.names) }
     ensures kept { OnOk result (state.new.bound ≡ state.old.bound) }
 {
-    Ok(Work::Simple(simple_of(alloc, scope, state, leaf)?))
+    Ok(PlanNode::Simple(simple_of(alloc, scope, state, leaf)?))
 }
 
 /// The work of the expression, inside the variables and with the names and the marks so far.
@@ -76,7 +76,7 @@ pub(crate) fn work_of(
     state: &mut State,
     marks: &mut Marks,
     x: &Expr,
-) -> Result<Work, AllocError>
+) -> Result<PlanNode, AllocError>
     ensures work { IfOk result (λ work. (later : List Name) → known (state.new.names ++ later) work
         ≡ walked typed.now.declared state.old.bound (drop marks.old.before typed.now.parts) marks.old.slots (view x.now)) }
     ensures grown { OnOk result (take (length state.old.names) state.new.names ≡ state.old.names) }
@@ -103,7 +103,7 @@ pub(crate) fn work_of(
             }
             state.bound.truncate(height);
             let kind = kind_of(alloc, typed.scope(), form, parts, free)?;
-            kept_work(alloc, keeps, height, marks, Work::Node(kind, works))
+            kept_work(alloc, keeps, height, marks, PlanNode::Node(kind, works))
         }
     }
 }

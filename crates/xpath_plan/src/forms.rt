@@ -4,7 +4,7 @@ ghost use Rattle.xpath_grammar.specs.View.{view, viewed};
 ghost use Rattle.xpath_meaning.specs.Resolving.{begins_with_step, is_step_leaf};
 ghost use Rattle.xpath_plan.specs.Kinds as spec;
 
-use crate::work::{Kind, Link};
+use crate::plan_node::{Operation, Separator};
 use inv_base::Txt;
 use std::alloc::{AllocError, Global};
 use xpath_grammar::expr::{Expr, Form, Label, Leaf};
@@ -16,13 +16,13 @@ use xpath_types::{Resolved, Scope, function_called, is_matches, type_named};
 use xsd_pattern::{PatternFault, parse};
 
 /// What is kept of what leads to a part.
-pub(crate) fn link_of(label: &Label) -> Link
+pub(crate) fn link_of(label: &Label) -> Separator
     ensures { result ≡ spec.link_of label.now }
 {
     match label {
-        Label::Link(operator) => Link::Operator(*operator),
-        Label::Comma => Link::Comma,
-        _ => Link::Other,
+        Label::Link(operator) => Separator::Operator(*operator),
+        Label::Comma => Separator::Comma,
+        _ => Separator::Other,
     }
 }
 
@@ -56,30 +56,30 @@ fn copied(alloc: Global, signs: &Many<Operator>) -> Result<Many<Operator>, Alloc
     Ok(copied)
 }
 
-fn cast_kind(word: CastWord, optional: bool, named: Resolved) -> Kind
+fn cast_kind(word: CastWord, optional: bool, named: Resolved) -> Operation
     ensures { result ≡ spec.cast_kind word optional named }
 {
     match named {
-        Resolved::Known(function) => Kind::Cast(word, function, optional),
-        Resolved::Unbound | Resolved::Unknown => Kind::Nothing,
+        Resolved::Known(function) => Operation::Cast(word, function, optional),
+        Resolved::Unbound | Resolved::Unknown => Operation::Nothing,
     }
 }
 
-fn call_kind(called: Resolved) -> Kind
+fn call_kind(called: Resolved) -> Operation
     ensures { result ≡ spec.call_kind called }
 {
     match called {
-        Resolved::Known(function) => Kind::Call(function),
-        Resolved::Unbound | Resolved::Unknown => Kind::Nothing,
+        Resolved::Known(function) => Operation::Call(function),
+        Resolved::Unbound | Resolved::Unknown => Operation::Nothing,
     }
 }
 
-fn signs_kind(alloc: Global, parts: &[(Label, Expr)]) -> Result<Kind, AllocError>
+fn signs_kind(alloc: Global, parts: &[(Label, Expr)]) -> Result<Operation, AllocError>
     ensures { IfOk result (λ kind. kind ≡ spec.signs_kind (map (λ part. part.0) parts.now)) }
 {
     match parts {
-        [(Label::Signed(signs), _), ..] => Ok(Kind::Signs(copied(alloc, signs)?)),
-        _ => Ok(Kind::Nothing),
+        [(Label::Signed(signs), _), ..] => Ok(Operation::Signs(copied(alloc, signs)?)),
+        _ => Ok(Operation::Nothing),
     }
 }
 
@@ -105,19 +105,19 @@ fn literal(x: &Expr) -> Option<&Txt>
 
 /// A call of `matches` with a literal as its pattern. A literal that is no pattern that is taken
 /// stands in no typed expression.
-fn matches_kind(alloc: Global, text: &Txt) -> Result<Kind, AllocError>
+fn matches_kind(alloc: Global, text: &Txt) -> Result<Operation, AllocError>
     ensures { IfOk result (λ kind. kind ≡ spec.matches_kind text.now) }
 {
     match parse(alloc, text.as_str()) {
-        Ok(pattern) => Ok(Kind::Matches(pattern)),
-        Err(PatternFault::Bad) => Ok(Kind::Call(Function::Matches)),
-        Err(PatternFault::TooLarge) => Ok(Kind::Call(Function::Matches)),
+        Ok(pattern) => Ok(Operation::Matches(pattern)),
+        Err(PatternFault::Bad) => Ok(Operation::Call(Function::Matches)),
+        Err(PatternFault::TooLarge) => Ok(Operation::Call(Function::Matches)),
         Err(PatternFault::Memory) => Err(AllocError),
     }
 }
 
 /// A call of what a name stands for, where the second of two arguments is a literal.
-fn named_kind(alloc: Global, called: Resolved, text: &Txt) -> Result<Kind, AllocError>
+fn named_kind(alloc: Global, called: Resolved, text: &Txt) -> Result<Operation, AllocError>
     ensures { IfOk result (λ kind. kind ≡ spec.literal_kind called text.now) }
 {
     if is_matches(called) {
@@ -127,7 +127,11 @@ fn named_kind(alloc: Global, called: Resolved, text: &Txt) -> Result<Kind, Alloc
     }
 }
 
-fn called_kind(alloc: Global, scope: &Scope, parts: &[(Label, Expr)]) -> Result<Kind, AllocError>
+fn called_kind(
+    alloc: Global,
+    scope: &Scope,
+    parts: &[(Label, Expr)],
+) -> Result<Operation, AllocError>
     ensures { IfOk result (λ kind. kind ≡ spec.called_kind scope.now (spec.second_literal (viewed parts.now)) (map (λ part. part.0) parts.now)) }
 {
     match parts {
@@ -138,27 +142,27 @@ fn called_kind(alloc: Global, scope: &Scope, parts: &[(Label, Expr)]) -> Result<
                 None => Ok(call_kind(called)),
             }
         }
-        _ => Ok(Kind::Nothing),
+        _ => Ok(Operation::Nothing),
     }
 }
 
-fn filter_kind(is_step: bool, free: bool) -> Kind
+fn filter_kind(is_step: bool, free: bool) -> Operation
     ensures { result ≡ spec.filter_kind is_step free }
 {
     if is_step {
         step_kind(free)
     } else {
-        Kind::Filtered
+        Operation::Filtered
     }
 }
 
-fn step_kind(free: bool) -> Kind
+fn step_kind(free: bool) -> Operation
     ensures { result ≡ spec.filter_kind true free }
 {
     if free {
-        Kind::FreeStep
+        Operation::FreeStep
     } else {
-        Kind::FilteredStep
+        Operation::FilteredStep
     }
 }
 
@@ -169,20 +173,20 @@ pub(crate) fn kind_of(
     form: &Form,
     parts: &[(Label, Expr)],
     free: bool,
-) -> Result<Kind, AllocError>
+) -> Result<Operation, AllocError>
     ensures { IfOk result (λ kind. kind ≡ spec.kind_of scope.now form.now (begins_with_step (viewed parts.now)) free (spec.second_literal (viewed parts.now))
         (map (λ part. part.0) parts.now)) }
 {
     match form {
-        Form::Chain(_) => Ok(Kind::Chain),
-        Form::Bound(binder) => Ok(Kind::Bound(*binder)),
-        Form::Conditional => Ok(Kind::Conditional),
+        Form::Chain(_) => Ok(Operation::Chain),
+        Form::Bound(binder) => Ok(Operation::Bound(*binder)),
+        Form::Conditional => Ok(Operation::Conditional),
         Form::Cast(word, name, optional) => {
             Ok(cast_kind(*word, *optional, type_named(scope, name)))
         }
         Form::Signs => signs_kind(alloc, parts),
         Form::Filter => Ok(filter_kind(begins_with_step(parts), free)),
-        Form::Parentheses => Ok(Kind::Only),
+        Form::Parentheses => Ok(Operation::Only),
         Form::Call => called_kind(alloc, scope, parts),
     }
 }

@@ -8,7 +8,7 @@ ghost use Rattle.xpath_plan.specs.Plans as spec;
 
 use crate::compiling::State;
 use crate::names::NameTable;
-use crate::work::{Simple, StepTest};
+use crate::plan_node::{Simple, StepTest};
 use inv_base::Txt;
 use std::alloc::{AllocError, Global};
 use xpath_grammar::expr::Leaf;

@@ -8,7 +8,7 @@ mod leaves;
 mod marks;
 mod names;
 mod plan;
-pub mod work;
+pub mod plan_node;
 
 pub use names::NameTable;
 pub use plan::{Plan, compile};

@@ -7,7 +7,7 @@ ghost use Rattle.xpath_plan.specs.Claims.{known};
 ghost use Rattle.xpath_plan.specs.Shapes as shapes;
 ghost use Rattle.xpath_plan.specs.Walking.{is_kept_by, is_free_by, kept_if};
 
-use crate::work::{Kind, Link, Work};
+use crate::plan_node::{Operation, PlanNode, Separator};
 use std::alloc::{AllocError, Global};
 use xpath_grammar::expr::{Expr, Label, Leaf};
 use xpath_grammar::many::Many;
@@ -84,18 +84,23 @@ pub(crate) fn still_free(free: bool, typed: &Typed<'_>, number: usize, label: &L
 }
 
 /// The work in the next slot.
-fn in_slot(alloc: Global, height: usize, marks: &mut Marks, work: Work) -> Result<Work, AllocError>
+fn in_slot(
+    alloc: Global,
+    height: usize,
+    marks: &mut Marks,
+    work: PlanNode,
+) -> Result<PlanNode, AllocError>
     ensures work { IfOk result (λ kept. (names : List Name) → known names kept ≡ kept_if true marks.old.slots height (known names work)) }
     ensures before { marks.new.before ≡ marks.old.before }
     ensures slots { OnOk result (marks.new.slots ≡ marks.old.slots + 1) }
 {
     let slot = marks.slots;
     let mut parts = Many::new(alloc);
-    parts.push((Link::Other, work))?;
+    parts.push((Separator::Other, work))?;
     match slot.checked_add(1) {
         Some(next) => {
             marks.slots = next;
-            Ok(Work::Node(Kind::Once(slot, height), parts))
+            Ok(PlanNode::Node(Operation::Once(slot, height), parts))
         }
         None => {
             drop(parts);
@@ -110,8 +115,8 @@ pub(crate) fn kept_work(
     keeps: bool,
     height: usize,
     marks: &mut Marks,
-    work: Work,
-) -> Result<Work, AllocError>
+    work: PlanNode,
+) -> Result<PlanNode, AllocError>
     ensures work { IfOk result (λ kept. (names : List Name) → known names kept ≡ kept_if keeps marks.old.slots height (known names work)) }
     ensures before { marks.new.before ≡ marks.old.before }
     ensures slots { OnOk result (marks.new.slots ≡ marks.old.slots + shapes.one_if keeps) }

@@ -10,7 +10,7 @@ ghost use Rattle.xpath_plan.specs.Shapes as spec;
 use crate::compiling::{State, work_of};
 use crate::marks::Marks;
 use crate::names::NameTable;
-use crate::work::Work;
+use crate::plan_node::PlanNode;
 use std::alloc::{AllocError, Global};
 use std::marker::Model;
 use xpath_meaning::{parts_depend_on_the_document_alone, positions_change_nothing};
@@ -20,11 +20,11 @@ use xpath_types::heights::Heights;
 /// An expression that is ready to be evaluated: its prefixes, functions and types are looked up, its variables found and its names
 /// numbered. It owns all that it holds, and outlives the text and the scope that it was made from.
 ///
-/// It says of its parts which have one value at all nodes of a document (`Kind::Once`) and which predicates test no position
-/// (`Kind::FreeStep`), and that is so.
+/// It says of its parts which have one value at all nodes of a document (`Operation::Once`) and which predicates test no position
+/// (`Operation::FreeStep`), and that is so.
 pub struct Plan {
     names: NameTable,
-    work: Work,
+    work: PlanNode,
     slots: usize,
 }
 
@@ -42,7 +42,7 @@ impl Drop for Plan {
 
 impl Model for Plan {
     ghost use Rattle.xpath_plan.specs.Plans.{Planned};
-    ghost use Rattle.xpath_plan.specs.contracts.work.Work as tree;
+    ghost use Rattle.xpath_plan.specs.contracts.plan_node.PlanNode as tree;
     ghost use Rattle.std.specs.Coded.{codes};
 
     ghost Value = { Planned };
@@ -65,7 +65,7 @@ impl Plan {
     }
 
     /// The tree of the plan.
-    pub fn work(&self) -> &Work
+    pub fn work(&self) -> &PlanNode
         ensures { result.now ≡ self.now.work }
     {
         &self.work

@@ -7,7 +7,7 @@ use Rattle.xpath_items.specs.declared.outcome.Focus.{Focus}
 use Rattle.xpath_meaning.specs.Values.{Value}
 use Rattle.xpath_meaning.specs.Resolving.{Operand, bound_all}
 use Rattle.xpath_meaning.specs.Meaning.{Context, inside, mean}
-use Rattle.xpath_parts.specs.declared.ground.Ground.{Ground}
+use Rattle.xpath_parts.specs.declared.dynamic.DynamicContext.{DynamicContext}
 use Rattle.xpath_parts.specs.Contexts.{context}
 use Rattle.xpath_parts.specs.Turns.{join, no_turns}
 
@@ -28,8 +28,8 @@ cost nodes (part ∷ []) c = 0
 cost nodes (part ∷ (next ∷ parts)) c = total_of (λ item. cost nodes (next ∷ parts) (inside c item)) (mean nodes part.1 c)
 
 -- where the turns of the k-th variable are taken
-abbrev pub level : Ground → Focus → List Item → ℕ → ℕ → Context
-level ground focus bound height k = context ground focus (take (height + k) bound)
+abbrev pub level : DynamicContext → Focus → List Item → ℕ → ℕ → Context
+level dynamic focus bound height k = context dynamic focus (take (height + k) bound)
 
 -- how many turns are still to come of the items of each variable, the innermost first
 abbrev pub costs : List Node → List Operand → (ℕ → Context) → List (List Item) → ℕ

@@ -14,8 +14,8 @@ use Rattle.xpath_meaning.specs.Expressions.{Exp}
 use Rattle.xpath_meaning.specs.Resolving.{arguments_of}
 use Rattle.xpath_meaning.specs.Meaning.{Context, mean, means}
 use Rattle.xpath_operators.specs.Nodes.{IsWithin, AreWithin}
-use Rattle.xpath_plan.specs.declared.work.Link.{Link}
-use Rattle.xpath_plan.specs.declared.work.Work.{Work}
+use Rattle.xpath_plan.specs.declared.plan_node.Separator.{Separator}
+use Rattle.xpath_plan.specs.declared.plan_node.PlanNode.{PlanNode}
 use Rattle.xpath_plan.specs.Plans.{seen}
 use Rattle.xpath_parts.specs.Contexts.{operands_of}
 use Rattle.xpath_parts.specs.Links.{linked_value, chain_value, linked_parts, kept_by_all}
@@ -37,7 +37,8 @@ pub begun : (values : List (List Item)) (others : Result (List (List Item)) DynE
 begun values (Ok zs) is = ap (λ vs. Ok (vs ++ zs)) is
 begun values (Err error) is = refl
 
-module _ (nodes : List Node) (names : List Name) (c : Context) (parts : List (Link × Work)) (i : ℕ) (part : Link × Work) (within : i < length parts)
+module _ (nodes : List Node) (names : List Name) (c : Context) (parts : List (Separator × PlanNode)) (i : ℕ) (part : Separator
+    × PlanNode) (within : i < length parts)
     (at : part ≡ get_or parts i part) where
   pub argument-ok : (values values' : List (List Item)) (items : List Item) → mean nodes (seen names part.1) c ≡ Ok items → values' ≡ values ++ items ∷ []
       → behind_those values' (means nodes (arguments_of (operands_of names (drop (i + 1) parts))) c) ≡ behind_those values
@@ -58,7 +59,8 @@ module _ (nodes : List Node) (names : List Name) (c : Context) (parts : List (Li
 
 -- Links
 
-pub link-step : (nodes : List Node) (names : List Name) (c : Context) (parts : List (Link × Work)) (i : ℕ) (part : Link × Work) (within : i < length parts)
+pub link-step : (nodes : List Node) (names : List Name) (c : Context) (parts : List (Separator × PlanNode)) (i : ℕ) (part : Separator
+    × PlanNode) (within : i < length parts)
     (at : part ≡ get_or parts i part) (before after : Value)
     → after ≡ linked_value nodes part.0 before (seen names part.1) c
     → chain_value nodes (linked_parts names (drop (i + 1) parts)) after c ≡ chain_value nodes (linked_parts names (drop i parts)) before c
@@ -68,7 +70,8 @@ link-step nodes names c parts i part within at before after is =
 
 -- Predicates
 
-module _ (f : Exp → Item → ℕ → ℕ → Value) (names : List Name) (parts : List (Link × Work)) (i : ℕ) (part : Link × Work) (within : i < length parts)
+module _ (f : Exp → Item → ℕ → ℕ → Value) (names : List Name) (parts : List (Separator × PlanNode)) (i : ℕ) (part : Separator
+    × PlanNode) (within : i < length parts)
     (at : part ≡ get_or parts i part) (items : List Item) where
   abbrev kept_here : Value → Value
   kept_here v = then_ v (λ kept. kept_by_all f (operands_of names (drop (i + 1) parts)) kept)

@@ -10,10 +10,10 @@ use Rattle.xpath_meaning.specs.Values.{Value, then_}
 use Rattle.xpath_meaning.specs.Functions.{call}
 use Rattle.xpath_meaning.specs.Resolving.{Operand, arguments_of}
 use Rattle.xpath_meaning.specs.Meaning.{Context, mean, means}
-use Rattle.xpath_plan.specs.declared.work.Link.{Link}
-use Rattle.xpath_plan.specs.declared.work.Kind.{Kind}
-use Rattle.xpath_plan.specs.declared.work.Kind.TheVariants as m
-use Rattle.xpath_plan.specs.declared.work.Work.{Work}
+use Rattle.xpath_plan.specs.declared.plan_node.Separator.{Separator}
+use Rattle.xpath_plan.specs.declared.plan_node.Operation.{Operation}
+use Rattle.xpath_plan.specs.declared.plan_node.Operation.TheVariants as m
+use Rattle.xpath_plan.specs.declared.plan_node.PlanNode.{PlanNode}
 use Rattle.xpath_plan.specs.Plans.{made}
 use Rattle.xpath_parts.specs.Contexts.{operands_of}
 use Rattle.xpath_parts.specs.Depths.{deepest}
@@ -35,7 +35,7 @@ matches-value : (nodes : List Node) (pattern : List ℕ) (v : Value) (focus : Fo
 matches-value nodes pattern (Ok items) focus = refl
 matches-value nodes pattern (Err error) focus = refl
 
-strict-value : (nodes : List Node) (kind : Kind) (parts : List Operand) (c : Context) → is_strict kind ≡ true
+strict-value : (nodes : List Node) (kind : Operation) (parts : List Operand) (c : Context) → is_strict kind ≡ true
     → mean nodes (made kind parts) c ≡ then_ (means nodes (arguments_of (wanted kind parts)) c) (finished nodes kind c.focus)
 strict-value nodes (m.Cast word function optional) [] c h = refl
 strict-value nodes (m.Cast word function optional) (part ∷ parts) c h =
@@ -56,11 +56,12 @@ strict-value nodes m.FilteredStep parts c h = absurd (false≢true h)
 strict-value nodes m.FreeStep parts c h = absurd (false≢true h)
 strict-value nodes m.Filtered parts c h = absurd (false≢true h)
 
-first_alone-of : (names : List Name) (parts : List (Link × Work)) → first_alone (operands_of names parts) ≡ operands_of names (first_alone parts)
+first_alone-of : (names : List Name) (parts : List (Separator × PlanNode)) → first_alone (operands_of names parts) ≡ operands_of names (first_alone parts)
 first_alone-of names [] = refl
 first_alone-of names (part ∷ parts) = refl
 
-wanted-of : (names : List Name) (kind : Kind) (parts : List (Link × Work)) → wanted kind (operands_of names parts) ≡ operands_of names (wanted kind parts)
+wanted-of : (names : List Name) (kind : Operation) (parts : List (Separator × PlanNode)) → wanted kind (operands_of names parts)
+    ≡ operands_of names (wanted kind parts)
 wanted-of names (m.Cast word function optional) parts = first_alone-of names parts
 wanted-of names (m.Signs signs) parts = first_alone-of names parts
 wanted-of names m.Only parts = first_alone-of names parts
@@ -68,7 +69,7 @@ wanted-of names (m.Call function) parts = refl
 wanted-of names (m.Matches pattern) parts = first_alone-of names parts
 wanted-of names _ parts = refl
 
-pub wanted-no_deeper : (kind : Kind) (parts : List (Link × Work)) → deepest (wanted kind parts) ≤ deepest parts
+pub wanted-no_deeper : (kind : Operation) (parts : List (Separator × PlanNode)) → deepest (wanted kind parts) ≤ deepest parts
 wanted-no_deeper (m.Cast word function optional) parts = first_alone-no_deeper parts
 wanted-no_deeper (m.Signs signs) parts = first_alone-no_deeper parts
 wanted-no_deeper m.Only parts = first_alone-no_deeper parts
@@ -77,7 +78,8 @@ wanted-no_deeper (m.Matches pattern) parts = first_alone-no_deeper parts
 wanted-no_deeper _ parts = omega arith
 
 -- a strict kind, at the parts that it wants
-pub strict : (nodes : List Node) (names : List Name) (kind : Kind) (parts wanted_parts : List (Link × Work)) (c : Context) → is_strict kind ≡ true →
+pub strict : (nodes : List Node) (names : List Name) (kind : Operation) (parts wanted_parts : List (Separator × PlanNode)) (c : Context) → is_strict kind
+    ≡ true →
     wanted_parts ≡ wanted kind parts
     → mean nodes (made kind (operands_of names parts)) c ≡ then_ (means nodes (arguments_of (operands_of names wanted_parts)) c) (finished nodes kind c.focus)
 strict nodes names kind parts wanted_parts c h is =

@@ -14,10 +14,10 @@ use Rattle.xpath_items.specs.declared.outcome.Focus.{Focus}
 use Rattle.xpath_meaning.specs.Values.{Value, then_}
 use Rattle.xpath_meaning.specs.Resolving.{Operand, bound_all}
 use Rattle.xpath_meaning.specs.Meaning.{Context, inside, mean, bound_by}
-use Rattle.xpath_plan.specs.declared.work.Link.{Link}
-use Rattle.xpath_plan.specs.declared.work.Work.{Work}
+use Rattle.xpath_plan.specs.declared.plan_node.Separator.{Separator}
+use Rattle.xpath_plan.specs.declared.plan_node.PlanNode.{PlanNode}
 use Rattle.xpath_plan.specs.Plans.{label_of, seen}
-use Rattle.xpath_parts.specs.declared.ground.Ground.{Ground}
+use Rattle.xpath_parts.specs.declared.dynamic.DynamicContext.{DynamicContext}
 use Rattle.xpath_parts.specs.Contexts.{context, operands_of, value_in}
 use Rattle.xpath_parts.specs.Links.{bound_value}
 use Rattle.xpath_parts.specs.Turns.{Takes, Advances, join, no_turns, decided, after, advanced}
@@ -30,7 +30,7 @@ pub length-push : {X : Type 0} (ys : List X) (y : X) → length (ys ++ y ∷ [])
 length-push [] y = refl
 length-push (z ∷ ys) y = ap suc (length-push ys y)
 
-drop-operands : (names : List Name) (k : ℕ) (parts : List (Link × Work)) → drop k (operands_of names parts) ≡ operands_of names (drop k parts)
+drop-operands : (names : List Name) (k : ℕ) (parts : List (Separator × PlanNode)) → drop k (operands_of names parts) ≡ operands_of names (drop k parts)
 drop-operands names zero parts = refl
 drop-operands names (suc k) [] = refl
 drop-operands names (suc k) (part ∷ parts) = drop-operands names k parts
@@ -42,7 +42,8 @@ take-whole (suc n) [] h = refl
 take-whole (suc n) (x ∷ xs) h = ap (λ ys. x ∷ ys) (take-whole n xs (omega (arith, h)))
 
 -- The next item was taken, and bound; the part is the one to be evaluated then.
-pub record IsTurn (height : ℕ) (parts : List (Link × Work)) (bound bound' : List Item) (turns turns' : List (List Item)) (part : Link × Work) : Type 0 where
+pub record IsTurn (height : ℕ) (parts : List (Separator × PlanNode)) (bound bound' : List Item) (turns turns' : List (List Item)) (part : Separator
+    × PlanNode) : Type 0 where
   pub item : Item
   pub k : ℕ
   pub next : advanced (reverse turns) ≡ Some (item, reverse turns')
@@ -51,7 +52,8 @@ pub record IsTurn (height : ℕ) (parts : List (Link × Work)) (bound bound' : L
   pub bound_is : bound' ≡ take (height + k) bound ++ item ∷ []
   pub part_is : drop k parts ≡ part ∷ drop (k + 1) parts
 
-pub is-turn : (height : ℕ) (parts : List (Link × Work)) (bound bound' now : List Item) (turns turns' : List (List Item)) (part : Link × Work) (b : Bool) (n : ℕ)
+pub is-turn : (height : ℕ) (parts : List (Separator × PlanNode)) (bound bound' now : List Item) (turns turns' : List (List Item)) (part : Separator
+    × PlanNode) (b : Bool) (n : ℕ)
     → Advances height turns bound (Ok b) turns' now → b ≡ true
     → bound' ≡ now → n + 1 ≡ length turns' → drop n parts ≡ part ∷ drop (n + 1) parts → IsTurn height parts bound bound' turns turns' part
 is-turn height parts bound bound' now turns turns' part b n advances holds same count at =
@@ -82,32 +84,33 @@ pub none-advanced : (height : ℕ) (bound now : List Item) (turns turns' : List 
     b ≡ false → advanced (reverse turns) ≡ None
 none-advanced height bound now turns turns' b advances holds = subst (λ b. Advances height turns bound (Ok b) turns' now) holds advances
 
-module _ (binder : Binder) (ground : Ground) (focus : Focus) (height : ℕ) (parts : List (Link × Work)) where
+module _ (binder : Binder) (dynamic : DynamicContext) (focus : Focus) (height : ℕ) (parts : List (Separator × PlanNode)) where
   abbrev nodes : List Node
-  nodes = tree_nodes ground.doc.now
+  nodes = tree_nodes dynamic.doc.now
 
   abbrev names : List Name
-  names = ground.names.now
+  names = dynamic.names.now
 
   abbrev inner : List Operand
   inner = operands_of names parts
 
   -- before the first turn
   pub begins : (bound : List Item) (items : List Item) → height ≡ length bound
-      → after binder [] (to_come binder nodes inner (level ground focus bound height) (items ∷ [])) ≡ bound_value binder nodes inner items
-      (context ground focus bound)
+      → after binder [] (to_come binder nodes inner (level dynamic focus bound height) (items ∷ [])) ≡ bound_value binder nodes inner items
+      (context dynamic focus bound)
   begins bound items high =
       let same : take (height + 0) bound ≡ bound = take-whole (height + 0) bound (omega (arith, high)) in
-      after-nothing binder (to_come binder nodes inner (level ground focus bound height) (items ∷ []))
-      ∙ ((λ j. turns_onto binder (λ item. mean nodes (bound_all binder inner) (inside (context ground focus (same j)) item)) items (no_turns binder))
-      ∙ sym (bound-onto (λ item. mean nodes (bound_all binder inner) (inside (context ground focus bound) item)) binder items))
+      after-nothing binder (to_come binder nodes inner (level dynamic focus bound height) (items ∷ []))
+      ∙ ((λ j. turns_onto binder (λ item. mean nodes (bound_all binder inner) (inside (context dynamic focus (same j)) item)) items (no_turns binder))
+      ∙ sym (bound-onto (λ item. mean nodes (bound_all binder inner) (inside (context dynamic focus bound) item)) binder items))
 
   -- behind the last turn
   pub ends : (bound : List Item) (turns : List (List Item)) (out : List Item) → advanced (reverse turns) ≡ None
-      → after binder out (to_come binder nodes inner (level ground focus bound height) (reverse turns)) ≡ after binder out (no_turns binder)
-  ends bound turns out none = ap (after binder out) (to_come-none binder nodes inner (level ground focus bound height) (reverse turns) none)
+      → after binder out (to_come binder nodes inner (level dynamic focus bound height) (reverse turns)) ≡ after binder out (no_turns binder)
+  ends bound turns out none = ap (after binder out) (to_come-none binder nodes inner (level dynamic focus bound height) (reverse turns) none)
 
-  module _ (bound bound' : List Item) (turns turns' : List (List Item)) (part : Link × Work) (s : IsTurn height parts bound bound' turns turns' part) where
+  module _ (bound bound' : List Item) (turns turns' : List (List Item)) (part : Separator × PlanNode) (s : IsTurn height parts bound bound' turns turns' part)
+      where
     abbrev item : Item
     item = s.item
 
@@ -130,10 +133,10 @@ module _ (binder : Binder) (ground : Ground) (focus : Focus) (height : ℕ) (par
     part_is = s.part_is
 
     abbrev before : ℕ → Context
-    before = level ground focus bound height
+    before = level dynamic focus bound height
 
     abbrev now : ℕ → Context
-    now = level ground focus bound' height
+    now = level dynamic focus bound' height
 
     abbrev rest : List (List Item)
     rest = reverse turns'
@@ -142,9 +145,9 @@ module _ (binder : Binder) (ground : Ground) (focus : Focus) (height : ℕ) (par
     here = inside (before k) item
 
     -- what the part is evaluated in
-    context-here : context ground focus bound' ≡ here
-    context-here = ap (context ground focus) bound_is ∙
-        (λ j. record { focus = focus; bound = reverse-push (take (height + k) bound) item j; outer = ground.env.now })
+    context-here : context dynamic focus bound' ≡ here
+    context-here = ap (context dynamic focus) bound_is ∙
+        (λ j. record { focus = focus; bound = reverse-push (take (height + k) bound) item j; outer = dynamic.env.now })
 
     front : length (take (height + k) bound) ≡ height + k
     front = omega (arith, length-take (height + k) bound, room)
@@ -152,7 +155,7 @@ module _ (binder : Binder) (ground : Ground) (focus : Focus) (height : ℕ) (par
     same-below : (j : ℕ) → j < length rest → now j ≡ before j
     same-below j h =
         let below : height + j ≤ height + k = omega (arith, h, length-reverse turns', long) in
-        ap (context ground focus) (ap (take (height + j)) bound_is ∙
+        ap (context dynamic focus) (ap (take (height + j)) bound_is ∙
         (take-append-le (height + j) (take (height + k) bound) (item ∷ []) (omega (arith, below, front)) ∙ take-take (height + j) (height + k) bound below))
 
     same-rest : to_come binder nodes inner now rest ≡ to_come binder nodes inner before rest
@@ -172,7 +175,7 @@ module _ (binder : Binder) (ground : Ground) (focus : Focus) (height : ℕ) (par
     inner-here = drop-operands names k parts ∙ ap (operands_of names) part_is
 
     abbrev found_here : Value
-    found_here = value_in ground (seen names part.1) focus bound'
+    found_here = value_in dynamic (seen names part.1) focus bound'
 
     found-is : found_here ≡ mean nodes (seen names part.1) here
     found-is = ap (mean nodes (seen names part.1)) context-here
@@ -190,7 +193,7 @@ module _ (binder : Binder) (ground : Ground) (focus : Focus) (height : ℕ) (par
       -- the part that the variables are for
       module _ (last : length parts ≤ length turns') (out : List Item) where
         none-behind : drop (k + 1) parts ≡ []
-        none-behind = at_drop_all (λ (xs : List (Link × Work)). xs) parts (k + 1) (omega (arith, last, long))
+        none-behind = at_drop_all (λ (xs : List (Separator × PlanNode)). xs) parts (k + 1) (omega (arith, last, long))
 
         last-value : mean nodes (bound_all binder (drop k inner)) here ≡ Ok found
         last-value = ap (λ parts. mean nodes (bound_all binder parts) here)
@@ -220,7 +223,7 @@ module _ (binder : Binder) (ground : Ground) (focus : Focus) (height : ℕ) (par
         more : k + 1 < length parts
         more = omega (arith, some_more, long)
 
-        abbrev part_behind : Link × Work
+        abbrev part_behind : Separator × PlanNode
         part_behind = get_or parts (k + 1) part
 
         behind-is : drop (k + 1) parts ≡ part_behind ∷ drop (k + 1 + 1) parts
@@ -236,7 +239,7 @@ module _ (binder : Binder) (ground : Ground) (focus : Focus) (height : ℕ) (par
         level-is = ap (λ n. drop n inner) (rest-long ∙ omega arith) ∙ (drop-operands names (k + 1) parts ∙ ap (operands_of names) behind-is)
 
         now-is : now (length rest) ≡ here
-        now-is = ap (λ n. now n) rest-long ∙ (ap (context ground focus) (take-whole (height + suc k) bound' (omega (arith, long-bound))) ∙ context-here)
+        now-is = ap (λ n. now n) rest-long ∙ (ap (context dynamic focus) (take-whole (height + suc k) bound' (omega (arith, long-bound))) ∙ context-here)
           where
             long-bound : length bound' ≤ height + suc k
             long-bound = omega (arith, ap length bound_is ∙ length-push (take (height + k) bound) item, front)

@@ -7,7 +7,7 @@ ghost use Rattle.xpath_meaning.specs.Values.{Value as Answer, value};
 ghost use Rattle.xpath_operators.specs.Nodes.{IsWithin};
 ghost use Rattle.xpath_plan.specs.Claims.{kept_of};
 ghost use Rattle.xpath_plan.specs.Plans.{expression, test_seen};
-ghost use Rattle.xpath_plan.specs.declared.work.StepTest.TheVariants as StepTest;
+ghost use Rattle.xpath_plan.specs.declared.plan_node.StepTest.TheVariants as StepTest;
 ghost use Rattle.xpath_parts.specs.Named.{IsEmptyAt, walk_of};
 ghost use Rattle.xpath_run.specs.Runs.{Goes};
 ghost use Rattle.xpath_parts.specs.Slots.{HoldIn, whole_slot};
@@ -23,7 +23,7 @@ use std::marker::Model;
 use std::sync::ledger::Ledger;
 use xml_events::NameId;
 use xpath_items::{Focus, Outcome};
-use xpath_parts::{Ground, Slots};
+use xpath_parts::{DynamicContext, Slots};
 use xpath_plan::Plan;
 use xpath_steps::Env;
 use xpath_walks::numbers_in;
@@ -53,7 +53,7 @@ impl<'p: 'a, 'd, 'a> Drop for Run<'p, 'd, 'a> {
 
 impl<'p: 'a, 'd, 'a> Model for Run<'p, 'd, 'a> {
     ghost use Rattle.xpath_run.specs.Runs.{Running, IsRunning};
-    ghost use Rattle.xpath_plan.specs.contracts.work.Work as tree;
+    ghost use Rattle.xpath_plan.specs.contracts.plan_node.PlanNode as tree;
     ghost use Rattle.std.specs.Coded.{codes};
 
     ghost Value = { Running };
@@ -113,7 +113,7 @@ impl<'p: 'a, 'd, 'a> Run<'p, 'd, 'a> {
             → Bounds (length (chain_of (tree_nodes self.old.document) (test_seen self.old.plan.names (StepTest.Named walk.name)))) walk.is_leading result
             steps.old steps.new }
     {
-        let ground = Ground {
+        let dynamic = DynamicContext {
             alloc,
             doc: self.doc,
             plan: self.plan,
@@ -121,6 +121,6 @@ impl<'p: 'a, 'd, 'a> Run<'p, 'd, 'a> {
             numbers: self.numbers.as_slice(),
             env,
         };
-        run_whole(&ground, self.plan.work(), focus, &mut self.slots, steps)
+        run_whole(&dynamic, self.plan.work(), focus, &mut self.slots, steps)
     }
 }

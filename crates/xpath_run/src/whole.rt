@@ -4,7 +4,7 @@ ghost use Rattle.node_arena.specs.Moves.{tree_nodes};
 ghost use Rattle.xpath_meaning.specs.Steps.{is_node};
 ghost use Rattle.xpath_meaning.specs.Values.{Value, value};
 ghost use Rattle.xpath_plan.specs.Plans.{seen, test_seen};
-ghost use Rattle.xpath_plan.specs.declared.work.Work.TheVariants as w;
+ghost use Rattle.xpath_plan.specs.declared.plan_node.PlanNode.TheVariants as w;
 ghost use Rattle.xpath_steps.specs.Variables.{ValueWithin};
 ghost use Rattle.xpath_parts.specs.Contexts.{IsReady, count, value_in};
 ghost use Rattle.xpath_parts.specs.Slots.{AreHeld, Grows, PlacedWork, table, whole_slot};
@@ -19,27 +19,30 @@ use std::alloc::AllocError;
 use std::sync::ledger::Ledger;
 use xpath_items::{Focus, Outcome};
 use xpath_operators::outcome;
-use xpath_parts::{Ground, Slots, node_of, walk_in, walked};
-use xpath_plan::work::{Kind, Link, StepTest, Work};
+use xpath_parts::{DynamicContext, Slots, node_of, walk_in, walked};
+use xpath_plan::plan_node::{Operation, PlanNode, Separator, StepTest};
 use xpath_steps::{copy_of, is_node};
 
 /// The slot and the part of a work that is one part that is kept, with no variable around it.
-fn whole_part(work: &Work) -> Option<(usize, &Work)>
+fn whole_part(work: &PlanNode) -> Option<(usize, &PlanNode)>
     ensures some { IfSome result (λ found. spec.IsWhole work.now found.0 found.1.now) }
     ensures none { IfNone result (whole_slot work.now ≡ None) }
 {
     match work {
-        Work::Simple(_) => None,
-        Work::Node(kind, parts) => whole_in(kind, parts.as_slice()),
+        PlanNode::Simple(_) => None,
+        PlanNode::Node(kind, parts) => whole_in(kind, parts.as_slice()),
     }
 }
 
-fn whole_in<'w>(kind: &Kind, parts: &'w [(Link, Work)]) -> Option<(usize, &'w Work)>
+fn whole_in<'w>(
+    kind: &Operation,
+    parts: &'w [(Separator, PlanNode)],
+) -> Option<(usize, &'w PlanNode)>
     ensures some { IfSome result (λ found. spec.IsWhole (w.Node kind.now parts.now) found.0 found.1.now) }
     ensures none { IfNone result (whole_slot (w.Node kind.now parts.now) ≡ None) }
 {
     match kind {
-        Kind::Once(slot, height) => match parts {
+        Operation::Once(slot, height) => match parts {
             [(_, part), ..] if *height == 0 => Some((*slot, part)),
             _ => None,
         },
@@ -49,86 +52,86 @@ fn whole_in<'w>(kind: &Kind, parts: &'w [(Link, Work)]) -> Option<(usize, &'w Wo
 
 /// The value of a work at a focus. Where it is one part that is kept, what its slot holds.
 pub(crate) fn run_whole<'a, L: Ledger>(
-    ground: &Ground<'_, 'a>,
-    work: &'a Work,
+    dynamic: &DynamicContext<'_, 'a>,
+    work: &'a PlanNode,
     focus: &Focus<'a>,
     slots: &mut Slots<'a>,
     steps: &mut Steps<L>,
 ) -> Result<Outcome<'a>, AllocError>
-    requires ready { IsReady ground.now focus.now [] }
-    requires placed { PlacedWork ground.now work.now }
-    requires slots { AreHeld ground.now slots.old }
-    requires long { length slots.old ≡ length (table ground.now) }
-    ensures value { IfOk result (λ outcome. value outcome ≡ value_in ground.now (seen ground.now.names.now work.now) focus.now []) }
-    ensures within { IfOk result (λ outcome. ValueWithin (count ground.now) (value outcome)) }
-    ensures held { AreHeld ground.now slots.new }
+    requires ready { IsReady dynamic.now focus.now [] }
+    requires placed { PlacedWork dynamic.now work.now }
+    requires slots { AreHeld dynamic.now slots.old }
+    requires long { length slots.old ≡ length (table dynamic.now) }
+    ensures value { IfOk result (λ outcome. value outcome ≡ value_in dynamic.now (seen dynamic.now.names.now work.now) focus.now []) }
+    ensures within { IfOk result (λ outcome. ValueWithin (count dynamic.now) (value outcome)) }
+    ensures held { AreHeld dynamic.now slots.new }
     ensures grown { Grows slots.old slots.new }
     ensures filled { (slot : ℕ) → whole_slot work.now ≡ Some slot → is_node focus.now.item ≡ true
         → IfOk result (λ outcome. get_or slots.new slot None ≡ Some (value outcome)) }
     ensures free { (slot : ℕ) (v : Value) → whole_slot work.now ≡ Some slot → is_node focus.now.item ≡ true
         → get_or slots.old slot None ≡ Some v → steps.new ≡ steps.old }
     ensures cost { (walk : Walk) → walk_of work.now ≡ Some walk → IsEmptyAt work.now slots.old → is_node focus.now.item ≡ true
-        → Bounds (length (chain_of (tree_nodes ground.now.doc.now) (test_seen ground.now.names.now (StepTest.Named walk.name)))) walk.is_leading result
+        → Bounds (length (chain_of (tree_nodes dynamic.now.doc.now) (test_seen dynamic.now.names.now (StepTest.Named walk.name)))) walk.is_leading result
         steps.old steps.new }
 {
     let Some((slot, part)) = whole_part(work) else {
-        return plainly(ground, work, focus, slots, steps);
+        return plainly(dynamic, work, focus, slots, steps);
     };
     if !is_node(&focus.item) {
-        return plainly(ground, work, focus, slots, steps);
+        return plainly(dynamic, work, focus, slots, steps);
     }
     if let Some(kept) = slots.lent(slot) {
-        return outcome(copy_of(ground.alloc, kept));
+        return outcome(copy_of(dynamic.alloc, kept));
     }
-    let found = plainly(ground, part, focus, slots, steps)?;
-    slots.fill(ground.alloc, slot, found)
+    let found = plainly(dynamic, part, focus, slots, steps)?;
+    slots.fill(dynamic.alloc, slot, found)
 }
 
 /// The value of a work at a focus, by a walk along the chain of its name where it is one.
 fn plainly<'a, L: Ledger>(
-    ground: &Ground<'_, 'a>,
-    work: &'a Work,
+    dynamic: &DynamicContext<'_, 'a>,
+    work: &'a PlanNode,
     focus: &Focus<'a>,
     slots: &mut Slots<'a>,
     steps: &mut Steps<L>,
 ) -> Result<Outcome<'a>, AllocError>
-    requires ready { IsReady ground.now focus.now [] }
-    requires placed { PlacedWork ground.now work.now }
-    requires slots { AreHeld ground.now slots.old }
-    ensures value { IfOk result (λ outcome. value outcome ≡ value_in ground.now (seen ground.now.names.now work.now) focus.now []) }
-    ensures within { IfOk result (λ outcome. ValueWithin (count ground.now) (value outcome)) }
-    ensures held { AreHeld ground.now slots.new }
+    requires ready { IsReady dynamic.now focus.now [] }
+    requires placed { PlacedWork dynamic.now work.now }
+    requires slots { AreHeld dynamic.now slots.old }
+    ensures value { IfOk result (λ outcome. value outcome ≡ value_in dynamic.now (seen dynamic.now.names.now work.now) focus.now []) }
+    ensures within { IfOk result (λ outcome. ValueWithin (count dynamic.now) (value outcome)) }
+    ensures held { AreHeld dynamic.now slots.new }
     ensures grown { Grows slots.old slots.new }
     ensures cost { (walk : Walk) → plain_walk work.now ≡ Some walk → is_node focus.now.item ≡ true
-        → Bounds (length (chain_of (tree_nodes ground.now.doc.now) (test_seen ground.now.names.now (StepTest.Named walk.name)))) walk.is_leading result
+        → Bounds (length (chain_of (tree_nodes dynamic.now.doc.now) (test_seen dynamic.now.names.now (StepTest.Named walk.name)))) walk.is_leading result
         steps.old steps.new }
 {
     match walk_in(work) {
         Some(walk) => match node_of(&focus.item) {
-            Some(n) => walked(ground, walk, focus, n, steps),
-            None => by_cycle(ground, work, focus, slots, steps),
+            Some(n) => walked(dynamic, walk, focus, n, steps),
+            None => by_cycle(dynamic, work, focus, slots, steps),
         },
-        None => by_cycle(ground, work, focus, slots, steps),
+        None => by_cycle(dynamic, work, focus, slots, steps),
     }
 }
 
 /// The value of a work at a focus.
 fn by_cycle<'a, L: Ledger>(
-    ground: &Ground<'_, 'a>,
-    work: &'a Work,
+    dynamic: &DynamicContext<'_, 'a>,
+    work: &'a PlanNode,
     focus: &Focus<'a>,
     slots: &mut Slots<'a>,
     steps: &mut Steps<L>,
 ) -> Result<Outcome<'a>, AllocError>
-    requires ready { IsReady ground.now focus.now [] }
-    requires placed { PlacedWork ground.now work.now }
-    requires slots { AreHeld ground.now slots.old }
-    ensures value { IfOk result (λ outcome. value outcome ≡ value_in ground.now (seen ground.now.names.now work.now) focus.now []) }
-    ensures within { IfOk result (λ outcome. ValueWithin (count ground.now) (value outcome)) }
-    ensures held { AreHeld ground.now slots.new }
+    requires ready { IsReady dynamic.now focus.now [] }
+    requires placed { PlacedWork dynamic.now work.now }
+    requires slots { AreHeld dynamic.now slots.old }
+    ensures value { IfOk result (λ outcome. value outcome ≡ value_in dynamic.now (seen dynamic.now.names.now work.now) focus.now []) }
+    ensures within { IfOk result (λ outcome. ValueWithin (count dynamic.now) (value outcome)) }
+    ensures held { AreHeld dynamic.now slots.new }
     ensures grown { Grows slots.old slots.new }
 {
-    let mut bound = Vec::new(ground.alloc);
-    let found = evaluate(ground, work, focus, &mut bound, slots, steps);
+    let mut bound = Vec::new(dynamic.alloc);
+    let found = evaluate(dynamic, work, focus, &mut bound, slots, steps);
     outcome(found)
 }

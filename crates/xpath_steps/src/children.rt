@@ -16,7 +16,7 @@ use std::alloc::{AllocError, Global};
 use std::sync::ledger::Ledger;
 use xpath_grammar::step::Axis;
 use xpath_items::{Item, Seq};
-use xpath_plan::work::StepTest;
+use xpath_plan::plan_node::StepTest;
 use xpath_walks::{Step, child_items};
 
 /// Which of the plan's names the test looks for, if it wants a full name.

@@ -15,7 +15,7 @@ use std::alloc::{AllocError, Global};
 use std::sync::ledger::Ledger;
 use xml_events::NameId;
 use xpath_grammar::step::Axis;
-use xpath_plan::work::StepTest;
+use xpath_plan::plan_node::StepTest;
 use xpath_walks::{Step, axis_nodes, documents_are_walkable, is_around};
 
 /// Puts what is inside the node and passes behind the others, unless the node is inside another one whose inside is there.

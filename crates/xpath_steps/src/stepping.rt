@@ -25,7 +25,7 @@ use std::sync::ledger::Ledger;
 use xml_events::NameId;
 use xpath_grammar::step::Axis;
 use xpath_items::{DynError, Fault, Item, Seq};
-use xpath_plan::work::StepTest;
+use xpath_plan::plan_node::StepTest;
 use xpath_walks::{Step, axis_nodes, documents_are_walkable, named_nodes};
 
 /// `/` at an item: the document, where the item is a node, else XPTY0020.

@@ -13,7 +13,7 @@ use xpath_grammar::expr::Expr;
 use xpath_grammar::functions::Function;
 use xpath_grammar::operators::CastWord;
 use xpath_plan::laws::typed_expressions_are_grammatical;
-use xpath_plan::work::{Kind, Link, Simple, StepTest, Work};
+use xpath_plan::plan_node::{Operation, PlanNode, Separator, Simple, StepTest};
 use xpath_plan::{NameTable, Plan, compile};
 use xpath_syntax::laws::answers_are_grammatical;
 use xpath_syntax::parse;
@@ -109,11 +109,11 @@ fn push_simple(line: &mut String, names: &NameTable, simple: &Simple) -> Result<
     }
 }
 
-fn push_link(line: &mut String, link: &Link) -> Result<(), AllocError> {
+fn push_link(line: &mut String, link: &Separator) -> Result<(), AllocError> {
     match link {
-        Link::Operator(operator) => write!(line, "{operator:?} "),
-        Link::Comma => line.push_str("Comma "),
-        Link::Other => Ok(()),
+        Separator::Operator(operator) => write!(line, "{operator:?} "),
+        Separator::Comma => line.push_str("Comma "),
+        Separator::Other => Ok(()),
     }
 }
 
@@ -138,28 +138,28 @@ fn push_cast(
     write!(line, "Cast({word:?}, {to:?}, {optional})")
 }
 
-fn push_kind(line: &mut String, kind: &Kind) -> Result<(), AllocError> {
+fn push_kind(line: &mut String, kind: &Operation) -> Result<(), AllocError> {
     match kind {
-        Kind::Chain => line.push_str("Chain"),
-        Kind::Bound(binder) => write!(line, "Bound({binder:?})"),
-        Kind::Conditional => line.push_str("Conditional"),
-        Kind::Cast(word, to, optional) => push_cast(line, *word, *to, *optional),
-        Kind::Signs(signs) => push_signs(line, signs.as_slice()),
-        Kind::FilteredStep => line.push_str("FilteredStep"),
-        Kind::FreeStep => line.push_str("FreeStep"),
-        Kind::Filtered => line.push_str("Filtered"),
-        Kind::Only => line.push_str("Only"),
-        Kind::Once(slot, height) => write!(line, "Once({slot}, {height})"),
-        Kind::Call(function) => write!(line, "Call({function:?})"),
-        Kind::Matches(_) => line.push_str("Matches"),
-        Kind::Nothing => line.push_str("Nothing"),
+        Operation::Chain => line.push_str("Chain"),
+        Operation::Bound(binder) => write!(line, "Bound({binder:?})"),
+        Operation::Conditional => line.push_str("Conditional"),
+        Operation::Cast(word, to, optional) => push_cast(line, *word, *to, *optional),
+        Operation::Signs(signs) => push_signs(line, signs.as_slice()),
+        Operation::FilteredStep => line.push_str("FilteredStep"),
+        Operation::FreeStep => line.push_str("FreeStep"),
+        Operation::Filtered => line.push_str("Filtered"),
+        Operation::Only => line.push_str("Only"),
+        Operation::Once(slot, height) => write!(line, "Once({slot}, {height})"),
+        Operation::Call(function) => write!(line, "Call({function:?})"),
+        Operation::Matches(_) => line.push_str("Matches"),
+        Operation::Nothing => line.push_str("Nothing"),
     }
 }
 
-fn push_work(line: &mut String, names: &NameTable, work: &Work) -> Result<(), AllocError> {
+fn push_work(line: &mut String, names: &NameTable, work: &PlanNode) -> Result<(), AllocError> {
     match work {
-        Work::Simple(simple) => push_simple(line, names, simple),
-        Work::Node(kind, parts) => {
+        PlanNode::Simple(simple) => push_simple(line, names, simple),
+        PlanNode::Node(kind, parts) => {
             line.push_str("[")?;
             push_kind(line, kind)?;
             let mut is_first = true;

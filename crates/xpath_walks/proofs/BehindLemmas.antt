@@ -5,7 +5,7 @@ use Rattle.std.specs.Prelude.{filter, nat_le}
 use Rattle.std.proofs.lemmas.Bool.{cases_lt, le-leb, false≢true}
 use Rattle.inv_base.specs.Tree.{Node, Name}
 use Rattle.xml_events.specs.Names.{find_name}
-use Rattle.xpath_plan.specs.declared.work.StepTest.TheVariants as t
+use Rattle.xpath_plan.specs.declared.plan_node.StepTest.TheVariants as t
 use Rattle.xpath_plan.specs.Plans.{test_seen}
 use Rattle.xpath_walks.specs.Tests.{numbers_of}
 use Rattle.node_arena.specs.Moves.{tree_node, behind, first_that, has_name}

@@ -14,8 +14,8 @@ use Rattle.xpath_grammar.specs.declared.step.Axis.{Axis}
 use Rattle.xpath_grammar.specs.declared.step.Axis.TheVariants as a
 use Rattle.xpath_meaning.specs.Expressions.{NodeTest, named, in_namespace, with_local, any_name, of_kind}
 use Rattle.xpath_meaning.specs.Axes.{is_on, is_principal}
-use Rattle.xpath_plan.specs.declared.work.StepTest.{StepTest}
-use Rattle.xpath_plan.specs.declared.work.StepTest.TheVariants as t
+use Rattle.xpath_plan.specs.declared.plan_node.StepTest.{StepTest}
+use Rattle.xpath_plan.specs.declared.plan_node.StepTest.TheVariants as t
 use Rattle.xpath_plan.specs.Plans.{test_seen}
 use Rattle.xpath_walks.specs.declared.walk.Way.TheVariants as w
 use Rattle.xpath_walks.specs.Tests.{numbers_of, is_passed}

@@ -9,7 +9,7 @@ use Rattle.inv_base.specs.declared.tree.Kind.{Kind}
 use Rattle.std.proofs.lemmas.List.{get_or-map}
 use Rattle.xpath_grammar.specs.declared.step.Axis.{Axis}
 use Rattle.xpath_meaning.specs.Axes.{is_principal}
-use Rattle.xpath_plan.specs.declared.work.StepTest.TheVariants as t
+use Rattle.xpath_plan.specs.declared.plan_node.StepTest.TheVariants as t
 use Rattle.xpath_plan.specs.Plans.{test_seen}
 use Rattle.xpath_walks.specs.Tests.{numbers_of, is_passed}
 

@@ -19,7 +19,7 @@ use std::alloc::AllocError;
 use std::sync::ledger::Ledger;
 use xml_events::NameId;
 use xpath_grammar::step::Axis;
-use xpath_plan::work::StepTest;
+use xpath_plan::plan_node::StepTest;
 
 /// Puts behind the others exactly the nodes on the step's axis from a node that pass the step's test, in the order of
 /// the axis (XPath 2.0, section 3.2.1). It goes along the axis by links: besides its nodes over attributes, where the axis

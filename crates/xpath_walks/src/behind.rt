@@ -16,7 +16,7 @@ use std::alloc::AllocError;
 use std::sync::ledger::Ledger;
 use xml_events::NameId;
 use xpath_grammar::step::Axis;
-use xpath_plan::work::StepTest;
+use xpath_plan::plan_node::StepTest;
 
 /// Whether the node has the plan's k-th name.
 fn is_of_name(doc: &Doc<'_>, numbers: &[Option<NameId>], k: usize, n: NodeId) -> bool

@@ -18,7 +18,7 @@ use std::alloc::AllocError;
 use std::sync::ledger::Ledger;
 use xml_events::NameId;
 use xpath_grammar::step::Axis;
-use xpath_plan::work::StepTest;
+use xpath_plan::plan_node::StepTest;
 
 /// Puts the document's elements of the plan's k-th name, which the step wants, behind the others.
 pub(crate) fn all_named<L: Ledger>(

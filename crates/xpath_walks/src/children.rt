@@ -17,7 +17,7 @@ use std::sync::ledger::Ledger;
 use xml_events::NameId;
 use xpath_grammar::step::Axis;
 use xpath_items::Item;
-use xpath_plan::work::StepTest;
+use xpath_plan::plan_node::StepTest;
 
 /// Puts the children of the node that have the plan's k-th name, which the step wants, behind the others. Where the
 /// document doesn't have the name, no child is looked at.

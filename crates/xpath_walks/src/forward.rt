@@ -14,7 +14,7 @@ use node_arena::{Doc, NodeId};
 use std::alloc::AllocError;
 use std::sync::ledger::Ledger;
 use xpath_grammar::step::Axis;
-use xpath_plan::work::StepTest;
+use xpath_plan::plan_node::StepTest;
 
 pub(crate) fn child<L: Ledger>(
     doc: &Doc<'_>,

@@ -1,6 +1,6 @@
 use xml_events::NameId;
 use xpath_grammar::step::Axis;
-use xpath_plan::work::StepTest;
+use xpath_plan::plan_node::StepTest;
 
 /// A step of a plan over a document.
 #[derive(Clone, Copy)]

@@ -15,7 +15,7 @@ use std::alloc::{AllocError, Global};
 use xml_events::NameId;
 use xpath_grammar::step::{Axis, KindTest};
 use xpath_plan::NameTable;
-use xpath_plan::work::StepTest;
+use xpath_plan::plan_node::StepTest;
 
 /// Of each name of a plan the number that it has in the document's table, None where no element and no attribute has
 /// it. It is made once, before the plan is run over the document.

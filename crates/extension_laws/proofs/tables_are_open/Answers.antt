@@ -1,16 +1,17 @@
 use Rattle.std.proofs.Common.{◌≡◌, true}
-use Rattle.bind_rows.specs.declared.tables.Which.{Which}
-use Rattle.bind_rows.specs.declared.tables.Which.TheVariants as which
+use Rattle.bind_rows.specs.declared.tables.DocumentType.{DocumentType}
+use Rattle.bind_rows.specs.declared.tables.DocumentType.TheVariants as document_type
 use Rattle.bind_meaning.specs.Tables.{rows_of}
 use Rattle.binding_laws.specs.Faultless.{is_faultless}
-use Rattle.extension_laws.proofs.OpenTables.{long-each, covered-each, joined-each, paired-each, which-each, room-each}
+use Rattle.extension_laws.proofs.OpenTables.{long-each, covered-each, joined-each, paired-each, document_type-each, room-each}
 use Rattle.extension_laws.proofs.tables_are_open.Goals as goal
 
-each-faultless : is_faultless (rows_of which.Invoice) ≡ true → is_faultless (rows_of which.CreditNote) ≡ true → is_faultless (rows_of which.Cii) ≡ true
-    → (table : Which) → is_faultless (rows_of table) ≡ true
-each-faultless a b c which.Invoice = a
-each-faultless a b c which.CreditNote = b
-each-faultless a b c which.Cii = c
+each-faultless : is_faultless (rows_of document_type.Invoice) ≡ true → is_faultless (rows_of document_type.CreditNote) ≡ true
+    → is_faultless (rows_of document_type.Cii) ≡ true
+    → (table : DocumentType) → is_faultless (rows_of table) ≡ true
+each-faultless a b c document_type.Invoice = a
+each-faultless a b c document_type.CreditNote = b
+each-faultless a b c document_type.Cii = c
 
 pub returns-clause-open_table : goal.returns-clause-open_table
 returns-clause-open_table c = λ table. record {
@@ -25,7 +26,7 @@ returns-clause-open_table c = λ table. record {
   readable = c.tables_are_readable.ensures.readable table;
   shows = c.tables_are_readable.ensures.shows table;
   root = c.roots_tell_their_tables.ensures.tables table;
-  which = which-each table;
+  document_type = document_type-each table;
   laid = c.tables_are_laid.ensures.laid table;
   notes = c.tables_are_laid.ensures.notes table;
 }

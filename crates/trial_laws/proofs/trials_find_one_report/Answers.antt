@@ -1,6 +1,6 @@
 use Rattle.std.proofs.Common.{◌≡◌, ℕ}
 use Rattle.code_lists.specs.CodeFiles.{built_in_lists}
-use Rattle.bind_rows.specs.declared.tables.Which.TheVariants as which
+use Rattle.bind_rows.specs.declared.tables.DocumentType.TheVariants as document_type
 use Rattle.bind_meaning.specs.Tables.{rows_of}
 use Rattle.svrl_report.specs.Plain.{tally_of}
 use Rattle.trial_invoice.specs.Generated.{trial_entries}
@@ -11,9 +11,9 @@ use Rattle.trial_laws.proofs.trials_find_one_report.Goals as goal
 
 pub returns-clause-found : goal.returns-clause-found
 returns-clause-found c lines some few =
-    let shown = c.shown_terms_make_a_document.ensures.valid (rows_of which.Invoice) (trial_entries lines) built_in_lists
-    (c.tables_are_readable.ensures.shows which.Invoice) (c.trial_entries_are_valid.ensures lines some) in
-    let back = c.carried_invoices_are_read_back.ensures.valid which.Invoice (trial_entries lines) built_in_lists
+    let shown = c.shown_terms_make_a_document.ensures.valid (rows_of document_type.Invoice) (trial_entries lines) built_in_lists
+    (c.tables_are_readable.ensures.shows document_type.Invoice) (c.trial_entries_are_valid.ensures lines some) in
+    let back = c.carried_invoices_are_read_back.ensures.valid document_type.Invoice (trial_entries lines) built_in_lists
     (c.trial_entries_are_an_invoice.ensures lines few)
     (c.trial_entries_are_valid.ensures lines some) (invoice-carried lines few) in
     tally-is c.printed_numbers_are_read.ensures.scaled lines some few shown back

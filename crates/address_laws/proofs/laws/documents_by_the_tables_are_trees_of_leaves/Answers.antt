@@ -4,5 +4,6 @@ use Rattle.address_laws.proofs.Tables.{addressed, laid}
 use Rattle.address_laws.proofs.laws.documents_by_the_tables_are_trees_of_leaves.Goals as goal
 
 pub returns : goal.returns
-returns c which es invoice =
-    document-tree (rows_of which) es invoice.placed (laid c.invoice_is_laid.ensures c.credit_note_is_laid.ensures c.cii_is_laid.ensures which) (addressed which)
+returns c document_type es invoice =
+    document-tree (rows_of document_type) es invoice.placed (laid c.invoice_is_writable.ensures c.credit_note_is_writable.ensures c.cii_is_writable.ensures
+        document_type) (addressed document_type)

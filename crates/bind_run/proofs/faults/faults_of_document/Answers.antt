@@ -4,12 +4,12 @@ use Rattle.bind_run.specs.Reading.{faults_by_root, rows_in}
 use Rattle.bind_run.proofs.IndicatorLemmas.{known-ok, known-same}
 use Rattle.bind_run.proofs.faults.faults_of_document.Goals as goal
 
-pub returns-in-Ok-faults_counted-clause-finds : goal.returns-in-Ok-faults_counted-clause-finds
-returns-in-Ok-faults_counted-clause-finds c =
-    let table = known-ok _ c.in-Ok.which (sym c.binding_of.ensures ∙ c.in-Ok.is) in
-    let e = c.in-Ok-faults_counted.ensures in
+pub returns-in-Ok-faults_of_table-clause-finds : goal.returns-in-Ok-faults_of_table-clause-finds
+returns-in-Ok-faults_of_table-clause-finds c =
+    let table = known-ok _ c.in-Ok.document_type (sym c.binding_of.ensures ∙ c.in-Ok.is) in
+    let e = c.in-Ok-faults_of_table.ensures in
     ap (faults_by_root (rows_in c.args.tables.now) _ c.args.lists.now) table
-    ∙ (λ i. Ok (record { which = (sym e.which) i; faults = (sym e.faults) i; passed = (sym e.passed_over) i }))
+    ∙ (λ i. Ok (record { document_type = (sym e.document_type) i; faults = (sym e.faults) i; passed = (sym e.passed_over) i }))
 
 pub returns-in-Err-clause-finds : goal.returns-in-Err-clause-finds
 returns-in-Err-clause-finds c = λ _.

@@ -6,14 +6,15 @@ use Rattle.bind_run.proofs.reading.read_document.Goals as goal
 
 pub returns-in-Ok-clause-reads : goal.returns-in-Ok-clause-reads
 returns-in-Ok-clause-reads c =
-    let table = known-ok _ c.in-Ok.which (sym c.binding_of.ensures ∙ c.in-Ok.is) in
+    let table = known-ok _ c.in-Ok.document_type (sym c.binding_of.ensures ∙ c.in-Ok.is) in
     subst (λ expected. Reads expected c.read_counted.result)
     (sym (ap (by_root (rows_in c.args.tables.now) _ c.args.lists.now) table)) c.read_counted.ensures.reads
 
 pub returns-in-Ok-clause-within : goal.returns-in-Ok-clause-within
 returns-in-Ok-clause-within c =
     reads-within _ _ c.read_counted.result c.read_counted.ensures.reads
-    (document-within c.args.doc.now c.is_of_a_tree.ensures.numbers c.is_of_a_tree.ensures.rooted c.args.lists.now (rows_in c.args.tables.now c.in-Ok.which))
+    (document-within c.args.doc.now c.is_of_a_tree.ensures.numbers c.is_of_a_tree.ensures.rooted c.args.lists.now (rows_in c.args.tables.now
+        c.in-Ok.document_type))
 
 pub returns-in-Err-clause-reads : goal.returns-in-Err-clause-reads
 returns-in-Err-clause-reads c = λ _.

@@ -5,6 +5,6 @@ use Rattle.bind_table.proofs.extending.push_terms.Given as goal
 
 abbrev pub invariant-terms : goal.invariant-terms
 invariant-terms l = record {
-  room : HasRooms l.which l.binding (drop l.term-index l.terms);
-  same : extended l.which l.binding (drop l.term-index l.terms) ≡ extended l.which l.initial.binding l.terms;
+  room : HasRooms l.document_type l.binding (drop l.term-index l.terms);
+  same : extended l.document_type l.binding (drop l.term-index l.terms) ≡ extended l.document_type l.initial.binding l.terms;
 }

@@ -14,18 +14,18 @@ some-nodes document h = omega (arith, h, long document)
 pub returns-clause-faults : goal.returns-clause-faults
 returns-clause-faults g c =
     IfOk-weaker c.into_faults.result _ _
-    (λ faults is. is ∙ kept-faults (tree_nodes c.args.scene.now.doc.now) (ordered c.args.scene.now.doc.now c.is_of_a_tree.ensures.numbers)
-    (some-nodes c.args.scene.now.doc.now c.is_of_a_tree.ensures.rooted) c.args.scene.now.lists.now c.args.scene.now.table.now
+    (λ faults is. is ∙ kept-faults (tree_nodes c.args.input.now.doc.now) (ordered c.args.input.now.doc.now c.is_of_a_tree.ensures.numbers)
+    (some-nodes c.args.input.now.doc.now c.is_of_a_tree.ensures.rooted) c.args.input.now.lists.now c.args.input.now.table.now
     c.find_faults.new.keeper.kept.entries c.in_ok-firsts.ensures.is_given)
     c.into_faults.ensures
 
 pub returns-clause-within : goal.returns-clause-within
 returns-clause-within g c =
     IfOk-weaker c.into_faults.result _ _
-    (λ faults is. subst (All (λ (fault : BindFault). fault.node < length c.args.scene.now.doc.now.nodes))
-    (sym (is ∙ kept-faults (tree_nodes c.args.scene.now.doc.now) (ordered c.args.scene.now.doc.now c.is_of_a_tree.ensures.numbers)
-    (some-nodes c.args.scene.now.doc.now c.is_of_a_tree.ensures.rooted) c.args.scene.now.lists.now c.args.scene.now.table.now
+    (λ faults is. subst (All (λ (fault : BindFault). fault.node < length c.args.input.now.doc.now.nodes))
+    (sym (is ∙ kept-faults (tree_nodes c.args.input.now.doc.now) (ordered c.args.input.now.doc.now c.is_of_a_tree.ensures.numbers)
+    (some-nodes c.args.input.now.doc.now c.is_of_a_tree.ensures.rooted) c.args.input.now.lists.now c.args.input.now.table.now
     c.find_faults.new.keeper.kept.entries c.in_ok-firsts.ensures.is_given))
-    (document-faults c.args.scene.now.doc.now c.is_of_a_tree.ensures.numbers c.is_of_a_tree.ensures.rooted c.args.scene.now.lists.now
-    c.args.scene.now.table.now))
+    (document-faults c.args.input.now.doc.now c.is_of_a_tree.ensures.numbers c.is_of_a_tree.ensures.rooted c.args.input.now.lists.now
+    c.args.input.now.table.now))
     c.into_faults.ensures

@@ -10,8 +10,8 @@ picks-init g c = passed-none _ _ _ _ _ _ (g.K.Keeper.given c.args.keeper.now) c.
 
 pub tell_pick-requires-clause-placed : goal.tell_pick-requires-clause-placed
 tell_pick-requires-clause-placed g c =
-    subst (SaysPlaced (tree_nodes c.args.scene.now.doc.now) c.args.scene.now.table.now) (sym c.pick-item.is)
-    (All-get_or (SaysPlaced (tree_nodes c.args.scene.now.doc.now) c.args.scene.now.table.now) c.args.picks.now c.picks.pick-index c.pick-item.result
+    subst (SaysPlaced (tree_nodes c.args.input.now.doc.now) c.args.input.now.table.now) (sym c.pick-item.is)
+    (All-get_or (SaysPlaced (tree_nodes c.args.input.now.doc.now) c.args.input.now.table.now) c.args.picks.now c.picks.pick-index c.pick-item.result
     (omega arith) c.requires.placed)
 
 pub picks-preserved : goal.picks-preserved

@@ -14,8 +14,8 @@ decreases-some_at g l = 2 * length l.path.now + 1
 
 abbrev pub invariant-some_below-children : goal.invariant-some_below-children
 invariant-some_below-children g l =
-    Looks (is_child l.fn.n) l.scene.doc.now (some_at l.scene.doc.now l.guard l.name l.deeper)
-    (list_any (some_at l.scene.doc.now l.guard l.name l.deeper) (children l.scene.doc.now l.fn.n)) l.at
+    Looks (is_child l.fn.n) l.input.doc.now (some_at l.input.doc.now l.guard l.name l.deeper)
+    (list_any (some_at l.input.doc.now l.guard l.name l.deeper) (children l.input.doc.now l.fn.n)) l.at
 
 abbrev pub decreases-some_below-children : goal.decreases-some_below-children
-decreases-some_below-children g l = still l.scene.doc.now l.at
+decreases-some_below-children g l = still l.input.doc.now l.at

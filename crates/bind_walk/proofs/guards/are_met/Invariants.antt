@@ -4,4 +4,4 @@ use Rattle.bind_walk.specs.Found.{is_met}
 use Rattle.bind_walk.proofs.guards.are_met.Given as goal
 
 abbrev pub invariant-guards : goal.invariant-guards
-invariant-guards g l = list_all (is_met l.scene.doc.now l.n) (drop l.guard-index l.guards) ≡ list_all (is_met l.scene.doc.now l.n) l.guards
+invariant-guards g l = list_all (is_met l.input.doc.now l.n) (drop l.guard-index l.guards) ≡ list_all (is_met l.input.doc.now l.n) l.guards

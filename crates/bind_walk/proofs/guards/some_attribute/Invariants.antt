@@ -6,8 +6,8 @@ use Rattle.bind_walk.proofs.LoopLemmas.{Looks}
 use Rattle.bind_walk.proofs.guards.some_attribute.Given as goal
 
 abbrev pub invariant-attributes : goal.invariant-attributes
-invariant-attributes g l = Looks (is_attribute_of l.fn.n) l.scene.doc.now (holds_named l.scene.doc.now l.test l.name)
-    (list_any (holds_named l.scene.doc.now l.test l.name) (attributes l.scene.doc.now l.fn.n)) l.at
+invariant-attributes g l = Looks (is_attribute_of l.fn.n) l.input.doc.now (holds_named l.input.doc.now l.test l.name)
+    (list_any (holds_named l.input.doc.now l.test l.name) (attributes l.input.doc.now l.fn.n)) l.at
 
 abbrev pub decreases-attributes : goal.decreases-attributes
-decreases-attributes g l = still l.scene.doc.now l.at
+decreases-attributes g l = still l.input.doc.now l.at

@@ -19,13 +19,13 @@ abbrev pub decreases-pick_in : goal.decreases-pick_in
 decreases-pick_in g l = 5 * length l.inside.now + 3
 
 abbrev pub invariant-walk-children : goal.invariant-walk-children
-invariant-walk-children g l = Inside l.scene.doc.now l.lines l.position.node l.position.around.now l.initial.finds l.at l.finds
+invariant-walk-children g l = Inside l.input.doc.now l.lines l.position.node l.position.around.now l.initial.finds l.at l.finds
 
 abbrev pub decreases-walk-children : goal.decreases-walk-children
-decreases-walk-children g l = still l.scene.doc.now l.at
+decreases-walk-children g l = still l.input.doc.now l.at
 
 abbrev pub invariant-follow-lines : goal.invariant-follow-lines
-invariant-follow-lines g l = Left l.scene.doc.now l.fn.lines l.position.node l.position.around.now l.initial.finds l.left l.finds
+invariant-follow-lines g l = Left l.input.doc.now l.fn.lines l.position.node l.position.around.now l.initial.finds l.left l.finds
 
 abbrev pub decreases-follow-lines : goal.decreases-follow-lines
 decreases-follow-lines g l = length l.left

@@ -8,11 +8,11 @@ use Rattle.bind_walk.proofs.walk.pick_attributes.Given as goal
 
 abbrev pub invariant-attributes : goal.invariant-attributes
 invariant-attributes g l = record {
-  here : IsAt (is_attribute_of l.position.node) l.scene.doc.now l.at;
-  left : put_all l.finds (flat_map (found_attribute l.scene.doc.now l.position.around.now l.row)
-      (numbers_from (is_attribute_of l.position.node) l.scene.doc.now l.at))
-      ≡ put_all l.initial.finds (found_attributes l.scene.doc.now l.position.around.now l.position.node l.row);
+  here : IsAt (is_attribute_of l.position.node) l.input.doc.now l.at;
+  left : put_all l.finds (flat_map (found_attribute l.input.doc.now l.position.around.now l.row)
+      (numbers_from (is_attribute_of l.position.node) l.input.doc.now l.at))
+      ≡ put_all l.initial.finds (found_attributes l.input.doc.now l.position.around.now l.position.node l.row);
 }
 
 abbrev pub decreases-attributes : goal.decreases-attributes
-decreases-attributes g l = still l.scene.doc.now l.at
+decreases-attributes g l = still l.input.doc.now l.at

@@ -6,5 +6,5 @@ use Rattle.bind_walk.proofs.walk.pick_here.Given as goal
 
 abbrev pub invariant-rows : goal.invariant-rows
 invariant-rows g l =
-    put_all l.finds (flat_map (found_in_row l.scene.doc.now l.position.around.now l.position.node) (drop l.row-index l.rows))
-    ≡ put_all l.initial.finds (flat_map (found_in_row l.scene.doc.now l.position.around.now l.position.node) l.rows)
+    put_all l.finds (flat_map (found_in_row l.input.doc.now l.position.around.now l.position.node) (drop l.row-index l.rows))
+    ≡ put_all l.initial.finds (flat_map (found_in_row l.input.doc.now l.position.around.now l.position.node) l.rows)

@@ -17,4 +17,4 @@ returns c = λ plain.
     subst (λ run. HasSameValues es run c.args.context) (sym c.requires.source.run)
     (run_values es c.args.source.now.context c.args.context (same_outer _ _ _ c.is_none.ensures c.if-is_none.false c.requires.context.outer)) in
     absent c.args.row.now es c.args.source.now.run.now c.args.source.now.presence c.args.term c.args.context c.requires.source.known same
-    (sym c.may_have.ensures ∙ c.if-may_have.false) (sym c.has_filler.ensures ∙ not_true _ plain)
+    (sym c.may_have.ensures ∙ c.if-may_have.false) (sym c.has_placeholder.ensures ∙ not_true _ plain)

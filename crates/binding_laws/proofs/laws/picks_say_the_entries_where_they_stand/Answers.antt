@@ -1,5 +1,5 @@
 use Rattle.binding_laws.proofs.CurrencyLemmas.{own-currencies-by-test, test-of-own-currencies}
-use Rattle.binding_laws.proofs.RoundLemmas.{currency-read, told-says, entry-says, picks-say, entries-said, none-inside, seats-agree}
+use Rattle.binding_laws.proofs.RoundLemmas.{currency-read, told-says, entry-says, picks-say, entries-parsed, none-inside, seats-agree}
 use Rattle.binding_laws.proofs.laws.picks_say_the_entries_where_they_stand.Goals as goal
 
 pub returns-clause-currency : goal.returns-clause-currency
@@ -11,8 +11,8 @@ returns-clause-currency c = λ rows es invoice paths fine settled plainly. test-
           c.readings_are_in_range.ensures.dashed;
     }) rows es invoice paths fine settled plainly)
 
-pub returns-clause-said : goal.returns-clause-said
-returns-clause-said c = λ rows es currencies p invoice paths fine settled plainly own uncoded there. picks-say
+pub returns-clause-parsed : goal.returns-clause-parsed
+returns-clause-parsed c = λ rows es currencies p invoice paths fine settled plainly own uncoded there. picks-say
     (record {
       values = c.spelled_values_are_read_back.ensures;
       days = c.printed_days_are_read.ensures.plain;
@@ -22,7 +22,7 @@ returns-clause-said c = λ rows es currencies p invoice paths fine settled plain
     (own-currencies-by-test rows es currencies own) uncoded p there
 
 pub returns-clause-all : goal.returns-clause-all
-returns-clause-all c = λ rows es currencies e invoice paths fine settled plainly own uncoded there. entries-said
+returns-clause-all c = λ rows es currencies e invoice paths fine settled plainly own uncoded there. entries-parsed
     (record {
       values = c.spelled_values_are_read_back.ensures;
       days = c.printed_days_are_read.ensures.plain;

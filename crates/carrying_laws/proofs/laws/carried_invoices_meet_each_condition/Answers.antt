@@ -1,5 +1,5 @@
 use Rattle.binding_laws.proofs.PlacedLemmas.{contains-among}
-use Rattle.carrying_laws.proofs.ConditionLemmas.{carried-keeps, carried-entries, entries-keep, row-kept, part-kept, creditor-kept, filler-kept, note-kept}
+use Rattle.carrying_laws.proofs.ConditionLemmas.{carried-keeps, carried-entries, entries-keep, row-kept, part-kept, creditor-kept, placeholder-kept, note-kept}
 use Rattle.carrying_laws.proofs.ConditionLemmas.{code-kept, means-kept, currency-kept}
 use Rattle.carrying_laws.proofs.TableLemmas.{tables-keep}
 use Rattle.carrying_laws.proofs.laws.carried_invoices_meet_each_condition.Goals as goal
@@ -19,8 +19,8 @@ returns-clause-part c = λ rows es e keeps known. part-kept rows es keeps e (con
 pub returns-clause-creditor : goal.returns-clause-creditor
 returns-clause-creditor c = λ rows es e keeps known. creditor-kept rows es keeps e (contains-among e es known)
 
-pub returns-clause-filler : goal.returns-clause-filler
-returns-clause-filler c = λ rows es e keeps known. filler-kept rows es keeps e (contains-among e es known)
+pub returns-clause-placeholder : goal.returns-clause-placeholder
+returns-clause-placeholder c = λ rows es e keeps known. placeholder-kept rows es keeps e (contains-among e es known)
 
 pub returns-clause-note : goal.returns-clause-note
 returns-clause-note c = λ rows es e keeps known. note-kept rows es keeps e (contains-among e es known)

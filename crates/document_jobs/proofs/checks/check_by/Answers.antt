@@ -1,5 +1,5 @@
 use Rattle.std.proofs.Common.{option_map}
-use Rattle.job_course.specs.Views.{text_of}
+use Rattle.job_protocol.specs.Views.{text_of}
 use Rattle.document_jobs.specs.Checks.{phase_asked, said_next}
 use Rattle.document_jobs.proofs.checks.check_by.Goals as goal
 

@@ -1,5 +1,5 @@
 use Rattle.std.proofs.Common.{map, option_map}
-use Rattle.job_course.specs.Views.{text_of}
+use Rattle.job_protocol.specs.Views.{text_of}
 use Rattle.document_jobs.specs.Checks.{named_of, chosen_of, phase_asked}
 use Rattle.document_jobs.proofs.CheckLemmas.{check_unphased, behind_phases}
 use Rattle.document_jobs.proofs.checks.check_with.Goals as goal

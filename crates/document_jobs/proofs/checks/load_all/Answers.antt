@@ -2,7 +2,7 @@ use Rattle.std.proofs.Common.{rules, ◌≡◌, ◌+◌, drop, map, true, ap, su
 use Rattle.std.proofs.lemmas.List.{drop_more, drop_all}
 use Rattle.std.specs.Result.{is_ok}
 use Rattle.schematron_rules.specs.Seen.{seen_rules}
-use Rattle.job_course.specs.Views.{texts_of}
+use Rattle.job_protocol.specs.Views.{texts_of}
 use Rattle.document_jobs.specs.Checks.{named_of}
 use Rattle.document_jobs.proofs.CheckLemmas.{Leads, kept_if, leads_first, leads_on, leads_stop, leads_memory, leads_kept, leads_last}
 use Rattle.document_jobs.proofs.checks.load_all.Goals as goal

@@ -1,5 +1,5 @@
 use Rattle.std.specs.Prelude.{map, drop}
-use Rattle.job_course.specs.Views.{texts_of}
+use Rattle.job_protocol.specs.Views.{texts_of}
 use Rattle.document_jobs.specs.Checks.{named_of}
 use Rattle.document_jobs.proofs.CheckLemmas.{Leads}
 use Rattle.document_jobs.proofs.checks.load_all.Given as goal

@@ -1,5 +1,5 @@
 use Rattle.std.proofs.Common.{refl, sym, subst, ◌∙◌}
-use Rattle.job_course.specs.declared.status.Status.TheVariants as statuses
+use Rattle.job_protocol.specs.declared.status.Status.TheVariants as statuses
 use Rattle.document_jobs.specs.Checks.{IsRefusalBy}
 use Rattle.document_jobs.proofs.checks.refuse_rules.Goals as goal
 

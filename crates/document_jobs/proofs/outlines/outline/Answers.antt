@@ -1,9 +1,9 @@
 use Rattle.std.proofs.Common.{inl, inr, refl, subst}
 use Rattle.inv_base.specs.Writing.{WritesAll, WritesFront}
 use Rattle.xml_profile.specs.Profile.{tree_of}
-use Rattle.job_course.specs.declared.status.Status.TheVariants as statuses
-use Rattle.job_course.specs.Course.{ends, done}
-use Rattle.job_course.proofs.Ends.{written_here, behind_document}
+use Rattle.job_protocol.specs.declared.status.Status.TheVariants as statuses
+use Rattle.job_protocol.specs.Protocol.{ends, done}
+use Rattle.job_protocol.proofs.Ends.{written_here, behind_document}
 use Rattle.document_jobs.specs.Outline.{outline_text}
 use Rattle.document_jobs.proofs.OutlineLemmas.{lines_of-tree}
 use Rattle.document_jobs.proofs.outlines.outline.Goals as goal

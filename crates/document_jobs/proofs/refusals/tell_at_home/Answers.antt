@@ -1,5 +1,5 @@
 use Rattle.std.proofs.Common.{subst}
-use Rattle.job_course.specs.Outside.{TakesOrFails}
+use Rattle.job_protocol.specs.Outside.{TakesOrFails}
 use Rattle.document_jobs.specs.Checks.{fault_line, line_at}
 use Rattle.document_jobs.proofs.refusals.tell_at_home.Goals as goal
 

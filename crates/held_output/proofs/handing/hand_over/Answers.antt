@@ -1,7 +1,7 @@
 use Rattle.std.proofs.Common.{subst, inr, refl}
 use Rattle.std.specs.Prelude.{MatchBool}
-use Rattle.job_course.specs.Outside.{IsAccepted}
-use Rattle.held_output.proofs.Courses.{handed_over}
+use Rattle.job_protocol.specs.Outside.{IsAccepted}
+use Rattle.held_output.proofs.Protocols.{handed_over}
 use Rattle.held_output.proofs.handing.hand_over.Goals as goal
 
 pub returns-then-is_accepted-clause-handed : goal.returns-then-is_accepted-clause-handed
@@ -14,5 +14,5 @@ returns-else-is_accepted-clause-handed g c =
     inr (inr (
       subst (λ b. MatchBool b (IsAccepted c.args.status) (IsAccepted c.args.status → ⊥)) c.if-is_accepted.false c.is_accepted.ensures,
       refl,
-      c.give_up.ensures.front,
+      c.into_sink.ensures.front,
     ))

@@ -21,7 +21,7 @@ all_missing_among-requires g c =
 pub returns : goal.returns
 returns g c =
     IfOk-weaker c.all_missing_among.result _ _
-    (λ lacks is. is ∙ (ap (all_missing_from c.standing_of.result c.args.context c.first_row_in-first.result) c.split_at.ensures.back ∙
+    (λ violations is. is ∙ (ap (all_missing_from c.standing_of.result c.args.context c.first_row_in-first.result) c.split_at.ensures.back ∙
     (ap (λ rows. all_missing_from c.standing_of.result c.args.context c.first_row_in-first.result (drop c.first_row_in-first.result rows)) c.term_rows.ensures ∙
     (ap (λ n. all_missing_from c.standing_of.result c.args.context n (drop n terms)) c.first_row_in-first.ensures ∙
     (from_first c.standing_of.result c.args.context ∙ ap (λ seats. all_missing seats c.args.context) c.standing_of.ensures))))) c.all_missing_among.ensures

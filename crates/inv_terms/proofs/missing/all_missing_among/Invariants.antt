@@ -4,5 +4,5 @@ use Rattle.inv_terms.proofs.missing.all_missing_among.Given as goal
 
 abbrev pub invariant-rows : goal.invariant-rows
 invariant-rows g l =
-    l.lacks.items ++ spec.all_missing_from l.standing l.context (l.first + l.k) (drop l.k l.rows) ≡ spec.all_missing_from
+    l.violations.items ++ spec.all_missing_from l.standing l.context (l.first + l.k) (drop l.k l.rows) ≡ spec.all_missing_from
     l.standing l.context l.first l.rows

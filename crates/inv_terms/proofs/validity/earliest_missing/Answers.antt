@@ -1,5 +1,5 @@
 use Rattle.std.proofs.Common.{sym, subst, Option}
-use Rattle.inv_terms.specs.declared.lacks.Lack.{Lack}
+use Rattle.inv_terms.specs.declared.violations.ModelViolation.{ModelViolation}
 use Rattle.term_table.specs.Contexts.{root_context}
 use Rattle.inv_terms.proofs.WalkLemmas.{Walk, walk_begins, walk_step}
 use Rattle.inv_terms.proofs.validity.earliest_missing.Goals as goal
@@ -7,7 +7,7 @@ use Rattle.inv_terms.proofs.validity.earliest_missing.Goals as goal
 pub entries-init : goal.entries-init
 entries-init c =
     let es = c.args.entries.now in
-    subst (λ (first : Option Lack). Walk es root_context es first) (sym c.first_missing-first.ensures) (walk_begins es)
+    subst (λ (first : Option ModelViolation). Walk es root_context es first) (sym c.first_missing-first.ensures) (walk_begins es)
 
 pub entries-preserved : goal.entries-preserved
 entries-preserved c =

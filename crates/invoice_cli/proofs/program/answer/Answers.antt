@@ -1,9 +1,9 @@
 use Rattle.std.proofs.Common.{refl, sym, subst}
 use Rattle.std.specs.Prelude.{option_map}
-use Rattle.job_course.specs.Outside.{Outside}
-use Rattle.job_course.specs.Runs.{Runs}
-use Rattle.document_jobs.specs.Checks.{check_course}
-use Rattle.job_course.specs.Views.{text_of}
+use Rattle.job_protocol.specs.Outside.{Outside}
+use Rattle.job_protocol.specs.Runs.{Runs}
+use Rattle.document_jobs.specs.Checks.{check_protocol}
+use Rattle.job_protocol.specs.Views.{text_of}
 use Rattle.invoice_cli.specs.Job.{words_of}
 use Rattle.invoice_cli.proofs.AnswersLemmas.{asked_is}
 use Rattle.invoice_cli.proofs.TrialLemmas.{lines_are_few}
@@ -30,7 +30,7 @@ returns-in-Check g c =
     let before : Outside = record { shelf = g.S.Shelf.view c.args.shelf.now; out = g.O.Sink.view c.args.out.now; err = g.E.Sink.view c.args.err.now } in
     let after : Outside = record { shelf = g.S.Shelf.view c.check.new.shelf; out = g.O.Sink.view c.check.new.out; err = g.E.Sink.view c.check.new.err } in
     let phase = option_map text_of c.in-Check.phase in
-    let runs = subst (λ names. Runs (check_course c.in-Check.svrl phase names c.in-Check.file.now) before after c.check.result) c.as_slice.ensures
+    let runs = subst (λ names. Runs (check_protocol c.in-Check.svrl phase names c.in-Check.file.now) before after c.check.result) c.as_slice.ensures
     c.check.ensures in
     (0, rw (← asked_is c.command_of-asked.result c.command_of-asked.ensures c.in-Check.is) (tt, runs))
 

@@ -1,7 +1,7 @@
 use Rattle.std.proofs.Common.{Bool, true, false, inl, inr, refl}
-use Rattle.job_course.specs.Outside.{IsAccepted}
-use Rattle.job_course.specs.declared.status.Status.TheVariants as statuses
-use Rattle.job_course.proofs.Ends.{written_here}
+use Rattle.job_protocol.specs.Outside.{IsAccepted}
+use Rattle.job_protocol.specs.declared.status.Status.TheVariants as statuses
+use Rattle.job_protocol.proofs.Ends.{written_here}
 use Rattle.inv_totals.specs.Totals.{is_nothing}
 use Rattle.inv_totals.specs.Lines.{differences_text}
 use Rattle.invoice_jobs.specs.Totals.{status_by}

@@ -1,6 +1,6 @@
 use Rattle.std.proofs.Common.{subst}
-use Rattle.job_course.specs.Runs.{Runs}
-use Rattle.job_course.proofs.Ends.{memory_here}
+use Rattle.job_protocol.specs.Runs.{Runs}
+use Rattle.job_protocol.proofs.Ends.{memory_here}
 use Rattle.inv_totals.specs.Totals.{differences}
 use Rattle.invoice_jobs.specs.Totals.{totalled}
 use Rattle.invoice_jobs.proofs.comparison.write_totals.Goals as goal

@@ -1,6 +1,6 @@
 use Rattle.std.proofs.Common.{inl, inr, refl}
-use Rattle.job_course.specs.declared.status.Status.TheVariants as statuses
-use Rattle.job_course.proofs.Ends.{written_here}
+use Rattle.job_protocol.specs.declared.status.Status.TheVariants as statuses
+use Rattle.job_protocol.proofs.Ends.{written_here}
 use Rattle.invoice_jobs.specs.Invoices.{listed, listing_in}
 use Rattle.invoice_jobs.proofs.invoices.show.Goals as goal
 

@@ -1,7 +1,7 @@
 use Rattle.std.proofs.Common.{inl, inr, refl}
 use Rattle.inv_terms.specs.declared.attachments.AttachFault.TheVariants as attach
-use Rattle.job_course.specs.declared.status.Status.TheVariants as statuses
-use Rattle.job_course.proofs.Ends.{memory_here}
+use Rattle.job_protocol.specs.declared.status.Status.TheVariants as statuses
+use Rattle.job_protocol.proofs.Ends.{memory_here}
 use Rattle.invoice_jobs.specs.Invoices.{read_of, extracted}
 use Rattle.invoice_jobs.proofs.InvoiceLemmas.{is_extracted, not_extracted}
 use Rattle.invoice_jobs.proofs.invoices.write_attachment.Goals as goal

@@ -1,7 +1,7 @@
 use Rattle.std.proofs.Common.{[], ◌∙◌}
 use Rattle.inv_base.proofs.WritingLemmas.{WritesAll-nil}
 use Rattle.inv_base.proofs.PrintingLemmas.{Prints-append, Prints-same}
-use Rattle.job_course.proofs.Printed.{takes_printed}
+use Rattle.job_protocol.proofs.Printed.{takes_printed}
 use Rattle.invoice_jobs.proofs.refusals.tell_attach_fault.Goals as goal
 
 pub returns : goal.returns

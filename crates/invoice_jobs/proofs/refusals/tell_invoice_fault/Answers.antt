@@ -2,7 +2,7 @@ use Rattle.std.proofs.Common.{[], ap, ◌∙◌}
 use Rattle.std.specs.Prelude.{decimal}
 use Rattle.inv_base.proofs.WritingLemmas.{WritesAll-nil}
 use Rattle.inv_base.proofs.PrintingLemmas.{Prints-append, Prints-same}
-use Rattle.job_course.proofs.Printed.{takes_printed}
+use Rattle.job_protocol.proofs.Printed.{takes_printed}
 use Rattle.invoice_jobs.proofs.refusals.tell_invoice_fault.Goals as goal
 
 pub returns : goal.returns

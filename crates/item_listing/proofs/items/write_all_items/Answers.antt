@@ -9,8 +9,8 @@ print_item-requires-clause-within g c = within_at _ c.args.items.now c.items.ite
 
 pub returns-in-Err-clause-ok : goal.returns-in-Err-clause-ok
 returns-in-Err-clause-ok g c = stopped_ok _ _ _ _ _ _ _ _ _ _ c.stopped.ensures c.in-Err.ensures.0 c.items.invariant c.in-Err.ensures.1
-    (lines_parted (item_line (tree_nodes c.args.scene.now.doc.now)) c.items.item-index c.args.items.now)
+    (lines_parted (item_line (tree_nodes c.args.input.now.doc.now)) c.items.item-index c.args.items.now)
 
 pub returns-in-Err-clause-err : goal.returns-in-Err-clause-err
 returns-in-Err-clause-err g c = stopped_err _ _ _ _ _ _ _ _ _ _ c.stopped.ensures c.in-Err.ensures.0 c.items.invariant c.in-Err.ensures.1
-    (lines_parted (item_line (tree_nodes c.args.scene.now.doc.now)) c.items.item-index c.args.items.now)
+    (lines_parted (item_line (tree_nodes c.args.input.now.doc.now)) c.items.item-index c.args.items.now)

@@ -8,4 +8,4 @@ use Rattle.item_listing.proofs.items.write_all_items.Given as goal
 -- the lines of the items so far
 abbrev pub invariant-items : goal.invariant-items
 invariant-items g l =
-    Printed l.printer.failed (flat_map (item_line (tree_nodes l.scene.doc.now)) (take l.item-index l.items)) (g.K.Sink.view l.initial.out) (g.K.Sink.view l.out)
+    Printed l.printer.failed (flat_map (item_line (tree_nodes l.input.doc.now)) (take l.item-index l.items)) (g.K.Sink.view l.initial.out) (g.K.Sink.view l.out)

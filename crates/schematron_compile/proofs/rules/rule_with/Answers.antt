@@ -12,12 +12,12 @@ use Rattle.schematron_compile.proofs.rules.rule_with.Goals as goal
 pub returns-in-Ok-clause-rule : goal.returns-in-Ok-clause-rule
 returns-in-Ok-clause-rule c =
     let rule : Rule = record { context = c.in_ok-context.context; lets = c.in-Ok.lets; assertions = c.in-Ok.assertions } in
-    rule_is c.args.file.now (seen_instance c.args.instance.now) c.args.scope.now (seen_entry c.args.e.now) rule (lent_puts c.args.puts.now)
-    (lets_among (lent_puts c.args.puts.now)) (assertions_among (lent_puts c.args.puts.now)) c.lets_and_assertions.new.scope
+    rule_is c.args.file.now (seen_instance c.args.instance.now) c.args.scope.now (seen_entry c.args.e.now) rule (lent_puts c.args.inclusions.now)
+    (lets_among (lent_puts c.args.inclusions.now)) (assertions_among (lent_puts c.args.inclusions.now)) c.lets_and_assertions.new.scope
     c.requires refl refl c.in-Ok.ensures.scope c.in_ok-context.ensures c.in-Ok.ensures.lets c.in-Ok.ensures.assertions
 
 pub returns-in-Ok-clause-scope : goal.returns-in-Ok-clause-scope
 returns-in-Ok-clause-scope c =
     cut_back c.args.instance.now.params c.args.scope.now c.lets_and_assertions.new.scope c.truncate.new.self
-    (lets_among (lent_puts c.args.puts.now)) c.count-count.result
+    (lets_among (lent_puts c.args.inclusions.now)) c.count-count.result
     c.count-count.ensures c.in-Ok.ensures.scope c.truncate.ensures

@@ -11,9 +11,9 @@ pub places-init : goal.places-init
 places-init c = passing-begin c.args.file.now c.entries-entries.result.now
     (seen_sums c.no_sums-before.result) c.no_sums-before.ensures c.entries-entries.ensures
 
-pub sums_at-requires-clause-puts : goal.sums_at-requires-clause-puts
-sums_at-requires-clause-puts c =
-    ap (λ l. slice_index_or l c.places.at 0) (c.requires.puts ∙ ap (assertions_among c.args.file.now) (sym c.entries-entries.ensures))
+pub sums_at-requires-clause-inclusions : goal.sums_at-requires-clause-inclusions
+sums_at-requires-clause-inclusions c =
+    ap (λ l. slice_index_or l c.places.at 0) (c.requires.inclusions ∙ ap (assertions_among c.args.file.now) (sym c.entries-entries.ensures))
     ∙ mapped (assertions_at c.args.file.now) 0 c.entries-entries.result.now c.places.at c.index-entries-at.result c.places-test.true c.index-entries-at.is
 
 pub sums_at-requires-clause-counted : goal.sums_at-requires-clause-counted

@@ -6,9 +6,9 @@ use Rattle.schematron_graph.proofs.OnceLemmas.{Walks}
 use Rattle.schematron_graph.proofs.once.push_once.Given as goal
 
 -- what is written, and what is left, have the firsts of all
-abbrev pub invariant-turns : goal.invariant-turns
-invariant-turns l =
+abbrev pub invariant-budget : goal.invariant-budget
+invariant-budget l =
     Walks (bodies_of l.fn.bodies) l.gone.keys (l.initial.out.items ++ found (things_behind (bodies_of l.fn.bodies)) l.fn.rank) l.out.items l.place l.above.items
 
-abbrev pub decreases-turns : goal.decreases-turns
-decreases-turns l = turns_left (bodies_of l.fn.bodies) l.place l.above.items
+abbrev pub decreases-budget : goal.decreases-budget
+decreases-budget l = turns_left (bodies_of l.fn.bodies) l.place l.above.items

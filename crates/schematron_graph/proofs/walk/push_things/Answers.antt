@@ -7,58 +7,59 @@ use Rattle.schematron_graph.proofs.WalkLemmas.{behind_one, things_left, rest_of,
 use Rattle.schematron_graph.proofs.WalkLemmas.{things_left-end, turns_left-own, turns_left-puts, turns_left-back}
 use Rattle.schematron_graph.proofs.walk.push_things.Goals as goal
 
-pub turns-init : goal.turns-init
-turns-init c =
+pub budget-init : goal.budget-init
+budget-init c =
     let bodies : List (List Part) = bodies_of c.args.bodies.now in
     let all : things_left bodies (first_of c.args.rank) [] ≡ found (things_behind bodies) c.args.rank =
     append-nil (rest_of (things_of (found (things_behind bodies))) bodies (first_of c.args.rank)) ∙
     sym (rest-first things_of things_of-Agrees bodies c.args.rank c.requires) in
     rw c.new-above.ensures.items (ap (λ t. c.args.out.now.items ++ t) all)
 
-pub turns-smaller-in-Some-Own : goal.turns-smaller-in-Some-Own
-turns-smaller-in-Some-Own c =
-    let e = turns_left-own (bodies_of c.args.bodies.now) c.turns.place c.turns.above.items c.in-Some-Own.thing
+pub budget-smaller-in-Some-Own : goal.budget-smaller-in-Some-Own
+budget-smaller-in-Some-Own c =
+    let e = turns_left-own (bodies_of c.args.bodies.now) c.budget.place c.budget.above.items c.in-Some-Own.thing
     (sym c.in-Some-Own.ensures.part ∙ ap Some c.in-Some-Own.field-0-is) in
     omega (arith, e)
 
-pub turns-preserved-in-Some-Own : goal.turns-preserved-in-Some-Own
-turns-preserved-in-Some-Own c =
+pub budget-preserved-in-Some-Own : goal.budget-preserved-in-Some-Own
+budget-preserved-in-Some-Own c =
     let bodies : List (List Part) = bodies_of c.args.bodies.now in
-    let e = things_left-own bodies c.turns.place c.turns.above.items c.in-Some-Own.thing (sym c.in-Some-Own.ensures.part ∙ ap Some c.in-Some-Own.field-0-is) in
+    let e = things_left-own bodies c.budget.place c.budget.above.items c.in-Some-Own.thing (sym c.in-Some-Own.ensures.part
+        ∙ ap Some c.in-Some-Own.field-0-is) in
     rw c.in_ok-push_thing-in-Some-Own.ensures
-    (append_assoc c.turns.out.items (c.in-Some-Own.thing ∷ []) (things_left bodies (behind_one c.turns.place) c.turns.above.items)
-    ∙ (ap (λ t. c.turns.out.items ++ t) (sym e) ∙ c.turns.invariant))
+    (append_assoc c.budget.out.items (c.in-Some-Own.thing ∷ []) (things_left bodies (behind_one c.budget.place) c.budget.above.items)
+    ∙ (ap (λ t. c.budget.out.items ++ t) (sym e) ∙ c.budget.invariant))
 
-pub turns-smaller-in-Some-Puts : goal.turns-smaller-in-Some-Puts
-turns-smaller-in-Some-Puts c =
-    let e = turns_left-puts (bodies_of c.args.bodies.now) c.turns.place c.turns.above.items c.in-Some-Puts.rule c.requires
+pub budget-smaller-in-Some-Puts : goal.budget-smaller-in-Some-Puts
+budget-smaller-in-Some-Puts c =
+    let e = turns_left-puts (bodies_of c.args.bodies.now) c.budget.place c.budget.above.items c.in-Some-Puts.rule c.requires
     (sym c.in-Some-Puts.ensures.part ∙ ap Some c.in-Some-Puts.field-0-is) in
     rw c.in_ok-push-in-Some-Puts.ensures.items (omega (arith, e))
 
-pub turns-preserved-in-Some-Puts : goal.turns-preserved-in-Some-Puts
-turns-preserved-in-Some-Puts c =
+pub budget-preserved-in-Some-Puts : goal.budget-preserved-in-Some-Puts
+budget-preserved-in-Some-Puts c =
     let bodies : List (List Part) = bodies_of c.args.bodies.now in
-    let e = things_left-puts bodies c.turns.place c.turns.above.items c.in-Some-Puts.rule c.requires
+    let e = things_left-puts bodies c.budget.place c.budget.above.items c.in-Some-Puts.rule c.requires
     (sym c.in-Some-Puts.ensures.part ∙ ap Some c.in-Some-Puts.field-0-is) in
-    rw c.in_ok-push-in-Some-Puts.ensures.items (ap (λ t. c.turns.out.items ++ t) (sym e) ∙ c.turns.invariant)
+    rw c.in_ok-push-in-Some-Puts.ensures.items (ap (λ t. c.budget.out.items ++ t) (sym e) ∙ c.budget.invariant)
 
-pub turns-smaller : goal.turns-smaller
-turns-smaller c =
-    let e = turns_left-back (bodies_of c.args.bodies.now) c.turns.place c.in-Some.last c.pop.new.self.items (sym c.in-None.ensures.part) in
+pub budget-smaller : goal.budget-smaller
+budget-smaller c =
+    let e = turns_left-back (bodies_of c.args.bodies.now) c.budget.place c.in-Some.last c.pop.new.self.items (sym c.in-None.ensures.part) in
     rw c.in-Some.ensures.items (omega (arith, e))
 
-pub turns-preserved : goal.turns-preserved
-turns-preserved c =
+pub budget-preserved : goal.budget-preserved
+budget-preserved c =
     let bodies : List (List Part) = bodies_of c.args.bodies.now in
-    let e = things_left-back bodies c.turns.place c.in-Some.last c.pop.new.self.items (sym c.in-None.ensures.part) in
-    ap (λ t. c.turns.out.items ++ t) (sym e ∙ ap (things_left bodies c.turns.place) (sym c.in-Some.ensures.items)) ∙ c.turns.invariant
+    let e = things_left-back bodies c.budget.place c.in-Some.last c.pop.new.self.items (sym c.in-None.ensures.part) in
+    ap (λ t. c.budget.out.items ++ t) (sym e ∙ ap (things_left bodies c.budget.place) (sym c.in-Some.ensures.items)) ∙ c.budget.invariant
 
 pub returns-in-None-pop : goal.returns-in-None-pop
 returns-in-None-pop c =
     let bodies : List (List Part) = bodies_of c.args.bodies.now in
-    let none : c.turns.above.items ≡ [] =
+    let none : c.budget.above.items ≡ [] =
     c.in-None-pop.ensures.items ∙ (append-nil c.pop.new.self.items ∙
-    (c.in-None-pop.ensures.rest ∙ ap (λ n. take (n - 1) c.turns.above.items) c.in-None-pop.ensures.cases.0)) in
-    sym (append-nil c.turns.out.items)
-    ∙ (ap (λ t. c.turns.out.items ++ t) (sym (things_left-end bodies c.turns.place (sym c.in-None.ensures.part)) ∙
-    ap (things_left bodies c.turns.place) (sym none)) ∙ c.turns.invariant)
+    (c.in-None-pop.ensures.rest ∙ ap (λ n. take (n - 1) c.budget.above.items) c.in-None-pop.ensures.cases.0)) in
+    sym (append-nil c.budget.out.items)
+    ∙ (ap (λ t. c.budget.out.items ++ t) (sym (things_left-end bodies c.budget.place (sym c.in-None.ensures.part)) ∙
+    ap (things_left bodies c.budget.place) (sym none)) ∙ c.budget.invariant)

@@ -5,9 +5,9 @@ use Rattle.schematron_graph.proofs.WalkLemmas.{things_left, turns_left}
 use Rattle.schematron_graph.proofs.walk.push_things.Given as goal
 
 -- what is written, and what is left, are all
-abbrev pub invariant-turns : goal.invariant-turns
-invariant-turns l =
+abbrev pub invariant-budget : goal.invariant-budget
+invariant-budget l =
     l.out.items ++ things_left (bodies_of l.fn.bodies) l.place l.above.items ≡ l.initial.out.items ++ found (things_behind (bodies_of l.fn.bodies)) l.fn.rank
 
-abbrev pub decreases-turns : goal.decreases-turns
-decreases-turns l = turns_left (bodies_of l.fn.bodies) l.place l.above.items
+abbrev pub decreases-budget : goal.decreases-budget
+decreases-budget l = turns_left (bodies_of l.fn.bodies) l.place l.above.items

@@ -2,7 +2,7 @@ use Rattle.std.proofs.Common.{◌∙◌, ◌+◌, ap, map, refl, sym, subst}
 use Rattle.schematron_rules.specs.Seen.{seen_rule}
 use Rattle.schematron_run.specs.Contexts.{HasContext}
 use Rattle.schematron_run.specs.Firsts.{MarkedBy}
-use Rattle.schematron_run.specs.Scenes.{nodes_of}
+use Rattle.schematron_run.specs.Inputs.{nodes_of}
 use Rattle.schematron_run.proofs.ListLemmas.{all_at}
 use Rattle.schematron_run.proofs.FirstLemmas.{coming_begin, coming_next, coming_end, untouched, are_numbers, kept_of}
 use Rattle.schematron_run.proofs.firsts.first_rules.Goals as goal
@@ -12,7 +12,7 @@ rules-init g c = record {
   long = refl;
   number = refl;
   touched = untouched c.args.table.now c.new-touched.result.items c.requires.clear c.new-touched.ensures.items;
-  coming = coming_begin (nodes_of c.args.scene.now) c.args.env.now (map seen_rule c.args.rules.now) c.args.table.now c.requires.clear;
+  coming = coming_begin (nodes_of c.args.input.now) c.args.env.now (map seen_rule c.args.rules.now) c.args.table.now c.requires.clear;
 }
 
 pub mark_rule-requires-clause-context : goal.mark_rule-requires-clause-context
@@ -27,7 +27,7 @@ mark_rule-requires-clause-touched g c = c.rules.invariant.touched
 
 pub rules-preserved : goal.rules-preserved
 rules-preserved g c =
-    let nodes = nodes_of c.args.scene.now in
+    let nodes = nodes_of c.args.input.now in
     record {
       long = c.mark_rule.ensures.long ∙ c.rules.invariant.long;
       number = c.in_ok-number.ensures ∙ ap (λ k. k + 1) c.rules.invariant.number;
@@ -40,12 +40,12 @@ rules-preserved g c =
     }
 
 pub returns-clause-firsts : goal.returns-clause-firsts
-returns-clause-firsts g c = coming_end (nodes_of c.args.scene.now) c.args.env.now c.args.rules.now c.rules.rule-index c.rules.table c.rules-test.false
+returns-clause-firsts g c = coming_end (nodes_of c.args.input.now) c.args.env.now c.args.rules.now c.rules.rule-index c.rules.table c.rules-test.false
     c.rules.invariant.coming
 
 pub returns-clause-touched : goal.returns-clause-touched
 returns-clause-touched g c =
-    let nodes = nodes_of c.args.scene.now in
+    let nodes = nodes_of c.args.input.now in
     let walked = c.documents_are_walkable.ensures in
     c.in_order.ensures.numbers nodes (are_numbers nodes walked.walkable c.rules.table c.rules.touched.items
     (c.rules.invariant.long ∙ (c.requires.long ∙ sym walked.long)) c.rules.invariant.touched)

@@ -4,7 +4,7 @@ use Rattle.std.proofs.lemmas.List.Elements.{All-set}
 use Rattle.std.proofs.lemmas.Option.{slice_get_past}
 use Rattle.schematron_run.specs.Firsts.{by_entry}
 use Rattle.schematron_run.specs.Ready.{ready_rule, IsRuleFor}
-use Rattle.schematron_run.specs.Scenes.{nodes_of}
+use Rattle.schematron_run.specs.Inputs.{nodes_of}
 use Rattle.schematron_run.proofs.ListLemmas.{on_ok}
 use Rattle.schematron_run.proofs.FirstLemmas.{no_entry}
 use Rattle.schematron_run.proofs.nodes.judge_by_entry.Goals as goal
@@ -18,12 +18,12 @@ returns-then-place-rules-clause-same g c =
 
 pub returns-then-place-rules-clause-ready : goal.returns-then-place-rules-clause-ready
 returns-then-place-rules-clause-ready g c =
-    on_ok c.judge_by_rule.result (λ h. All-set (IsRuleFor c.args.scene.now.doc.now) c.args.rules.now c.in-Some.k c.judge_by_rule.new.rule h c.requires.ready)
+    on_ok c.judge_by_rule.result (λ h. All-set (IsRuleFor c.args.input.now.doc.now) c.args.rules.now c.in-Some.k c.judge_by_rule.new.rule h c.requires.ready)
     c.judge_by_rule.ensures.ready
 
 pub returns-else-place-rules-clause-found : goal.returns-else-place-rules-clause-found
 returns-else-place-rules-clause-found g c =
-    let nodes = nodes_of c.args.scene.now in
+    let nodes = nodes_of c.args.input.now in
     let rules = c.args.rules.now in
     let old = c.args.findings.now in
     let past : length rules ≤ c.in-Some.k = omega arith in

@@ -5,21 +5,21 @@ use Rattle.schematron_run.specs.declared.ready.ReadyAssertion.{ReadyAssertion}
 use Rattle.schematron_run.specs.declared.ready.ReadyLet.{ReadyLet}
 use Rattle.schematron_run.specs.Judging.{by_assertion, filled}
 use Rattle.schematron_run.specs.Ready.{ready_assertion, ready_let, IsAssertionFor, IsLetFor}
-use Rattle.schematron_run.specs.Scenes.{nodes_of}
+use Rattle.schematron_run.specs.Inputs.{nodes_of}
 use Rattle.schematron_run.proofs.LetLemmas.{cut_off}
 use Rattle.schematron_run.proofs.ListLemmas.{back_seen, back_all}
 use Rattle.schematron_run.proofs.nodes.judge_inside.Goals as goal
 
 pub fill-requires-clause-ready : goal.fill-requires-clause-ready
-fill-requires-clause-ready g c = subst (All (IsLetFor c.args.scene.now.doc.now)) (sym c.as_mut_slice.ensures.value) c.requires.ready.lets
+fill-requires-clause-ready g c = subst (All (IsLetFor c.args.input.now.doc.now)) (sym c.as_mut_slice.ensures.value) c.requires.ready.lets
 
 pub judge_assertions-requires-clause-ready : goal.judge_assertions-requires-clause-ready
-judge_assertions-requires-clause-ready g c = subst (All (IsAssertionFor c.args.scene.now.doc.now))
+judge_assertions-requires-clause-ready g c = subst (All (IsAssertionFor c.args.input.now.doc.now))
     (sym c.as_mut_slice-2.ensures.value) c.requires.ready.assertions
 
 pub returns-clause-found : goal.returns-clause-found
 returns-clause-found g c =
-    let nodes = nodes_of c.args.scene.now in
+    let nodes = nodes_of c.args.input.now in
     let n = c.args.n in
     let old = c.args.findings.now in
     let variables = filled nodes n (map ready_let c.args.rule.now.lets.items) c.args.env.now in
@@ -31,7 +31,7 @@ returns-clause-found g c =
 
 pub returns-clause-env : goal.returns-clause-env
 returns-clause-env g c =
-    let nodes = nodes_of c.args.scene.now in
+    let nodes = nodes_of c.args.input.now in
     c.truncate.ensures
     ∙ (ap (λ k. take k c.fill.new.env) c.len-before.ensures
     ∙ (ap (take (length c.args.env.now)) c.in_ok-fill.ensures.filled ∙ cut_off nodes c.args.n (map ready_let c.as_mut_slice.result.now) c.args.env.now))
@@ -49,7 +49,7 @@ returns-clause-same g c =
 pub returns-clause-ready : goal.returns-clause-ready
 returns-clause-ready g c =
     let rule = c.args.rule.now in
-    let document = c.args.scene.now.doc.now in
+    let document = c.args.input.now.doc.now in
     record {
       lets = back_all ready_let rule.lets c.as_mut_slice.result.now c.fill.new.lets c.as_mut_slice.ensures.len c.in_ok-fill.ensures.same
           (IsLetFor document) c.in_ok-fill.ensures.ready;

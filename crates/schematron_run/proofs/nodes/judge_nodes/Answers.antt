@@ -2,28 +2,28 @@ use Rattle.std.proofs.Common.{◌<◌, ◌++◌, ◌∙◌, ℕ, ap, map, sym, s
 use Rattle.xpath_steps.specs.Variables.{ValuesWithin}
 use Rattle.schematron_run.specs.Firsts.{entry, by_entry}
 use Rattle.schematron_run.specs.Ready.{ready_rule}
-use Rattle.schematron_run.specs.Scenes.{nodes_of, count}
+use Rattle.schematron_run.specs.Inputs.{nodes_of, count}
 use Rattle.schematron_run.proofs.ListLemmas.{below_at, drop_item, flat_next-plain, flat_done-plain}
 use Rattle.schematron_run.proofs.nodes.judge_nodes.Goals as goal
 
 pub entry_at-kept-requires : goal.entry_at-kept-requires
 entry_at-kept-requires g c =
     subst (λ k. c.n-item.result < k) (sym c.requires.long)
-    (below_at (count c.args.scene.now) c.args.nodes.now c.nodes.n-index c.n-item.result c.requires.within c.n-item.is c.nodes-test.true)
+    (below_at (count c.args.input.now) c.args.nodes.now c.nodes.n-index c.n-item.result c.requires.within c.n-item.is c.nodes-test.true)
 
 pub judge_by_entry-requires-clause-ready : goal.judge_by_entry-requires-clause-ready
 judge_by_entry-requires-clause-ready g c = c.nodes.invariant.ready
 
 pub judge_by_entry-requires-clause-within : goal.judge_by_entry-requires-clause-within
-judge_by_entry-requires-clause-within g c = below_at (count c.args.scene.now) c.args.nodes.now c.nodes.n-index c.n-item.result c.requires.within c.n-item.is
+judge_by_entry-requires-clause-within g c = below_at (count c.args.input.now) c.args.nodes.now c.nodes.n-index c.n-item.result c.requires.within c.n-item.is
     c.nodes-test.true
 
 pub judge_by_entry-requires-clause-variables : goal.judge_by_entry-requires-clause-variables
-judge_by_entry-requires-clause-variables g c = subst (ValuesWithin (count c.args.scene.now)) (sym c.nodes.invariant.env) c.requires.variables
+judge_by_entry-requires-clause-variables g c = subst (ValuesWithin (count c.args.input.now)) (sym c.nodes.invariant.env) c.requires.variables
 
 pub nodes-preserved : goal.nodes-preserved
 nodes-preserved g c =
-    let all = nodes_of c.args.scene.now in
+    let all = nodes_of c.args.input.now in
     let rules = map ready_rule c.args.rules.now in
     let n = c.n-item.result in
     record {
@@ -42,6 +42,6 @@ nodes-preserved g c =
 
 pub returns-clause-found : goal.returns-clause-found
 returns-clause-found g c =
-    flat_done-plain (λ (n : ℕ). by_entry (nodes_of c.args.scene.now) c.args.env.now (map ready_rule c.args.rules.now) n (entry c.args.table.now n))
+    flat_done-plain (λ (n : ℕ). by_entry (nodes_of c.args.input.now) c.args.env.now (map ready_rule c.args.rules.now) n (entry c.args.table.now n))
     c.args.nodes.now c.nodes.n-index c.nodes.findings
     c.nodes-test.false c.nodes.invariant.found

@@ -4,13 +4,13 @@ use Rattle.inv_base.specs.Tree.{Node}
 use Rattle.schematron_findings.specs.declared.finding.Line.TheVariants as l
 use Rattle.schematron_rules.specs.Seen.{seen_rule, seen_lets}
 use Rattle.schematron_run.specs.Judging.{by_first, filled}
-use Rattle.schematron_run.specs.Scenes.{nodes_of}
+use Rattle.schematron_run.specs.Inputs.{nodes_of}
 use Rattle.schematron_run.proofs.LetLemmas.{cut_off}
 use Rattle.schematron_run.proofs.patterns.judge_pattern.Goals as goal
 
 pub returns-clause-found : goal.returns-clause-found
 returns-clause-found g c =
-    let nodes = nodes_of c.args.scene.now in
+    let nodes = nodes_of c.args.input.now in
     let pattern = c.args.pattern.now in
     let old = c.args.findings.now in
     let env = c.args.env.now in
@@ -28,7 +28,7 @@ returns-clause-found g c =
 
 pub returns-clause-env : goal.returns-clause-env
 returns-clause-env g c =
-    let nodes = nodes_of c.args.scene.now in
+    let nodes = nodes_of c.args.input.now in
     c.truncate.ensures
     ∙ (ap (take c.len-before.result) c.in_ok-judge_by_rules.ensures.env
     ∙ (ap (λ k. take k c.fill_once.new.env) c.len-before.ensures

@@ -11,7 +11,7 @@ assertions-preserved c =
       seen = made_next ready_assertion seen_assertion c.args.assertions.now c.assertions.assertion-index c.assertion-item.result made c.push.new.self.items x
           c.assertion-item.is c.assertions-test.true
           c.in_ok-push.ensures.items c.in_ok-assertion_of.ensures.seen c.assertions.invariant.seen;
-      ready = all_pushed (IsAssertionFor c.args.scene.now.doc.now) made c.push.new.self.items x c.in_ok-push.ensures.items c.assertions.invariant.ready
+      ready = all_pushed (IsAssertionFor c.args.input.now.doc.now) made c.push.new.self.items x c.in_ok-push.ensures.items c.assertions.invariant.ready
           c.in_ok-assertion_of.ensures.ready;
     }
 

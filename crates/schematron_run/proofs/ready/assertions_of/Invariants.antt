@@ -7,5 +7,5 @@ use Rattle.schematron_run.proofs.ready.assertions_of.Given as goal
 abbrev pub invariant-assertions : goal.invariant-assertions
 invariant-assertions l = record {
   seen : map ready_assertion l.made.items ++ map seen_assertion (drop l.assertion-index l.assertions) ≡ map seen_assertion l.assertions;
-  ready : All (IsAssertionFor l.scene.doc.now) l.made.items;
+  ready : All (IsAssertionFor l.input.doc.now) l.made.items;
 }

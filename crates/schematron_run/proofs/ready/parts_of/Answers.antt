@@ -10,7 +10,7 @@ parts-preserved c =
     record {
       seen = made_next ready_part seen_part c.args.parts.now c.parts.part-index c.part-item.result made c.push.new.self.items x c.part-item.is c.parts-test.true
           c.in_ok-push.ensures.items c.in_ok-part_of.ensures.seen c.parts.invariant.seen;
-      ready = all_pushed (IsPartFor c.args.scene.now.doc.now) made c.push.new.self.items x c.in_ok-push.ensures.items c.parts.invariant.ready
+      ready = all_pushed (IsPartFor c.args.input.now.doc.now) made c.push.new.self.items x c.in_ok-push.ensures.items c.parts.invariant.ready
           c.in_ok-part_of.ensures.ready;
     }
 

@@ -7,5 +7,5 @@ use Rattle.schematron_run.proofs.ready.parts_of.Given as goal
 abbrev pub invariant-parts : goal.invariant-parts
 invariant-parts l = record {
   seen : map ready_part l.made.items ++ map seen_part (drop l.part-index l.parts) ≡ map seen_part l.parts;
-  ready : All (IsPartFor l.scene.doc.now) l.made.items;
+  ready : All (IsPartFor l.input.doc.now) l.made.items;
 }

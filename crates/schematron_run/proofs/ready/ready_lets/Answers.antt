@@ -11,7 +11,7 @@ lets-preserved c =
       seen = made_next ready_let seen_let c.args.lets.now c.lets.variable-index c.variable-item.result made c.push.new.self.items x c.variable-item.is
           c.lets-test.true
           c.in_ok-push.ensures.items c.in_ok-let_of.ensures.seen c.lets.invariant.seen;
-      ready = all_pushed (IsLetFor c.args.scene.now.doc.now) made c.push.new.self.items x c.in_ok-push.ensures.items c.lets.invariant.ready
+      ready = all_pushed (IsLetFor c.args.input.now.doc.now) made c.push.new.self.items x c.in_ok-push.ensures.items c.lets.invariant.ready
           c.in_ok-let_of.ensures.ready;
     }
 

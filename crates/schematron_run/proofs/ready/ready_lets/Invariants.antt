@@ -7,5 +7,5 @@ use Rattle.schematron_run.proofs.ready.ready_lets.Given as goal
 abbrev pub invariant-lets : goal.invariant-lets
 invariant-lets l = record {
   seen : map ready_let l.made.items ++ map seen_let (drop l.variable-index l.lets) ≡ map seen_let l.lets;
-  ready : All (IsLetFor l.scene.doc.now) l.made.items;
+  ready : All (IsLetFor l.input.doc.now) l.made.items;
 }

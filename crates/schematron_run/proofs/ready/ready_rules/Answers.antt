@@ -10,7 +10,7 @@ rules-preserved c =
     record {
       seen = made_next ready_rule seen_rule c.args.rules.now c.rules.rule-index c.rule-item.result made c.push.new.self.items x c.rule-item.is c.rules-test.true
           c.in_ok-push.ensures.items c.in_ok-rule_of.ensures.seen c.rules.invariant.seen;
-      ready = all_pushed (IsRuleFor c.args.scene.now.doc.now) made c.push.new.self.items x c.in_ok-push.ensures.items c.rules.invariant.ready
+      ready = all_pushed (IsRuleFor c.args.input.now.doc.now) made c.push.new.self.items x c.in_ok-push.ensures.items c.rules.invariant.ready
           c.in_ok-rule_of.ensures.ready;
     }
 

@@ -1,4 +1,4 @@
-use Rattle.term_table.proofs.LetterLemmas.{one_type}
+use Rattle.term_table.proofs.DataTypeLemmas.{one_type}
 use Rattle.term_table.proofs.laws.terms_have_one_type.Goals as goal
 
 pub returns : goal.returns

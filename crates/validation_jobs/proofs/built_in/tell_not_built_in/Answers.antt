@@ -1,6 +1,6 @@
 use Rattle.std.proofs.Common.{[]}
 use Rattle.inv_base.proofs.WritingLemmas.{WritesAll-nil}
-use Rattle.job_course.proofs.Printed.{takes_printed}
+use Rattle.job_protocol.proofs.Printed.{takes_printed}
 use Rattle.validation_jobs.proofs.built_in.tell_not_built_in.Goals as goal
 
 pub returns : goal.returns

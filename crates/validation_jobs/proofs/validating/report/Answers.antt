@@ -1,21 +1,22 @@
 use Rattle.std.proofs.Common.{◌≡◌, ◌∙◌}
 use Rattle.held_rules.specs.Texts.{seen_ready}
-use Rattle.job_course.specs.Course.{ends}
-use Rattle.job_course.proofs.Ends.{memory_here}
+use Rattle.job_protocol.specs.Protocol.{ends}
+use Rattle.job_protocol.proofs.Ends.{memory_here}
 use Rattle.validation_report.specs.Validating.{report_of}
-use Rattle.validation_jobs.specs.Validation.{validated, reported, faulted_of}
+use Rattle.validation_jobs.specs.Validation.{validated, reported, reading_report_of}
 use Rattle.validation_jobs.proofs.ValidationLemmas.{report_is_written}
 use Rattle.validation_jobs.proofs.validating.report.Goals as goal
 
 pub returns-in-Err : goal.returns-in-Err
 returns-in-Err g c = λ content lines shelf err.
-    memory_here (ends (reported c.args.svrl (validated content c.args.placed.now.doc (faulted_of c.args.faulted.now) (seen_ready c.args.ready.now)))) shelf
+    memory_here (ends (reported c.args.svrl (validated content c.args.placed.now.doc (reading_report_of c.args.reading_report.now) (seen_ready
+        c.args.ready.now)))) shelf
     (g.O.Sink.view c.args.out.now) err
 
 pub returns-in-Ok-made : goal.returns-in-Ok-made
 returns-in-Ok-made g c = λ content lines shelf err.
     let doc = c.args.placed.now.doc in
-    let v = validated content doc (faulted_of c.args.faulted.now) (seen_ready c.args.ready.now) in
+    let v = validated content doc (reading_report_of c.args.reading_report.now) (seen_ready c.args.ready.now) in
     let same : report_of (record {
       content = content;
       document = doc;

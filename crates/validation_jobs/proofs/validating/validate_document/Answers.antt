@@ -1,15 +1,15 @@
 use Rattle.std.proofs.Common.{◌∙◌}
 use Rattle.node_arena.specs.Moves.{tree_nodes}
-use Rattle.invoice_jobs.specs.Sources.{basis_of}
-use Rattle.validation_jobs.specs.Validation.{faulted_of}
+use Rattle.invoice_jobs.specs.Sources.{profile_of}
+use Rattle.validation_jobs.specs.Validation.{reading_report_of}
 use Rattle.validation_jobs.proofs.ValidationLemmas.{same_faults, document_faulted, document_refused}
 use Rattle.validation_jobs.proofs.validating.validate_document.Goals as goal
 
 pub returns-in-Ok : goal.returns-in-Ok
 returns-in-Ok g c = λ content lines shelf.
-    let held = c.args.basis.now in
+    let held = c.args.reading_profile.now in
     let doc = c.args.placed.now.doc in
-    document_faulted c.args.svrl c.args.file.now (basis_of held) content doc shelf (faulted_of c.in-Ok.faulted) (g.O.Sink.view c.args.out.now)
+    document_faulted c.args.svrl c.args.file.now (profile_of held) content doc shelf (reading_report_of c.in-Ok.reading_report) (g.O.Sink.view c.args.out.now)
     (g.O.Sink.view c.judge_document-status.new.out) (g.E.Sink.view c.args.err.now)
     (g.E.Sink.view c.judge_document-status.new.err) c.judge_document-status.result
     (same_faults held.extension held.tables c.requires.tables (tree_nodes doc) held.lists ∙ c.in-Ok.ensures.finds)
@@ -17,8 +17,9 @@ returns-in-Ok g c = λ content lines shelf.
 
 pub returns-in-Err : goal.returns-in-Err
 returns-in-Err g c = λ content lines shelf.
-    let held = c.args.basis.now in
+    let held = c.args.reading_profile.now in
     let doc = c.args.placed.now.doc in
-    document_refused c.args.svrl c.args.file.now (basis_of held) content doc shelf c.in-Err.fault (g.O.Sink.view c.args.out.now) (g.E.Sink.view c.args.err.now)
+    document_refused c.args.svrl c.args.file.now (profile_of held) content doc shelf c.in-Err.fault (g.O.Sink.view c.args.out.now) (g.E.Sink.view
+        c.args.err.now)
     (g.E.Sink.view c.refuse_invoice.new.err) c.refuse_invoice.result
     (λ other. same_faults held.extension held.tables c.requires.tables (tree_nodes doc) held.lists ∙ c.in-Err.ensures.finds other) c.refuse_invoice.ensures

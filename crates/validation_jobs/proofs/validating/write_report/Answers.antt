@@ -1,5 +1,5 @@
 use Rattle.std.proofs.Common.{inl, inr, refl}
-use Rattle.job_course.specs.declared.status.Status.TheVariants as statuses
+use Rattle.job_protocol.specs.declared.status.Status.TheVariants as statuses
 use Rattle.validation_jobs.proofs.ValidationLemmas.{report_written}
 use Rattle.validation_jobs.proofs.validating.write_report.Goals as goal
 

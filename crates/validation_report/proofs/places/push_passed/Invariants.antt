@@ -5,6 +5,6 @@ use Rattle.validation_report.proofs.places.push_passed.Given as goal
 
 -- the elements so far, and those that are left
 abbrev pub invariant-nodes : goal.invariant-nodes
-invariant-nodes l = (content : List ℕ) → AreLinesOf l.scene.lines.now content
-    → l.passed.items ++ map (passed_of l.scene.doc.now content) (drop l.n-index l.nodes) ≡ l.initial.passed.items
-    ++ map (passed_of l.scene.doc.now content) l.nodes
+invariant-nodes l = (content : List ℕ) → AreLinesOf l.input.lines.now content
+    → l.passed.items ++ map (passed_of l.input.doc.now content) (drop l.n-index l.nodes) ≡ l.initial.passed.items
+    ++ map (passed_of l.input.doc.now content) l.nodes

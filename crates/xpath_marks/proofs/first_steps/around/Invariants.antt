@@ -6,6 +6,6 @@ use Rattle.xpath_marks.proofs.first_steps.around.Given as goal
 
 abbrev pub invariant-from : goal.invariant-from
 invariant-from g l = record {
-  within : AreNodes l.ground l.out.items;
-  left : l.out.items ++ flat_map (around_at (nodes_of l.ground)) (drop l.n-index l.from) ≡ flat_map (around_at (nodes_of l.ground)) l.from;
+  within : AreNodes l.dynamic l.out.items;
+  left : l.out.items ++ flat_map (around_at (nodes_of l.dynamic)) (drop l.n-index l.from) ≡ flat_map (around_at (nodes_of l.dynamic)) l.from;
 }

@@ -8,28 +8,28 @@ use Rattle.xpath_marks.proofs.inside.all_inside.Goals as goal
 
 pub from-init : goal.from-init
 from-init g c = λ w. record {
-  within = subst (AreNodes c.args.ground.now) (sym c.new-out.ensures.items) tt;
+  within = subst (AreNodes c.args.dynamic.now) (sym c.new-out.ensures.items) tt;
   around = tt;
   reaches = λ k. ap (is_among k) c.new-out.ensures.items;
 }
 
 pub go_in-requires-clause-around : goal.go_in-requires-clause-around
-go_in-requires-clause-around g c = around_within c.args.ground.now c.documents_are_walkable.ensures c.from.around c.from.out.items
+go_in-requires-clause-around g c = around_within c.args.dynamic.now c.documents_are_walkable.ensures c.from.around c.from.out.items
     (c.from.invariant c.documents_are_walkable.ensures).around
 
 pub go_in-requires-clause-within : goal.go_in-requires-clause-within
-go_in-requires-clause-within g c = item_within c.args.ground.now c.args.from.now c.from.n-index c.n-item.result c.n-item.is refl c.requires.from
+go_in-requires-clause-within g c = item_within c.args.dynamic.now c.args.from.now c.from.n-index c.n-item.result c.n-item.is refl c.requires.from
     c.from-test.true
 
 pub from-preserved : goal.from-preserved
-from-preserved g c = λ w. goes_on c.args.ground.now w c.args.from.now c.from.n-index c.n-item.result c.from.around c.in_ok-go_in.field-0 c.from.out.items
+from-preserved g c = λ w. goes_on c.args.dynamic.now w c.args.from.now c.from.n-index c.n-item.result c.from.around c.in_ok-go_in.field-0 c.from.out.items
     c.go_in.new.out.items c.n-item.is c.from-test.true
-    (item_within c.args.ground.now c.args.from.now c.from.n-index c.n-item.result c.n-item.is refl c.requires.from c.from-test.true) c.in_ok-go_in.ensures
+    (item_within c.args.dynamic.now c.args.from.now c.from.n-index c.n-item.result c.n-item.is refl c.requires.from c.from-test.true) c.in_ok-go_in.ensures
     (c.from.invariant w)
 
 pub returns-clause-reached : goal.returns-clause-reached
 returns-clause-reached g c =
-    let base = c.args.ground.now in
+    let base = c.args.dynamic.now in
     let walked = c.documents_are_walkable.ensures in
     let gone = c.from.invariant walked in
     c.in_order.ensures.numbers (nodes_of base) (are_numbers base.doc.now c.from.out.items walked gone.within)
@@ -37,7 +37,7 @@ returns-clause-reached g c =
 
 pub returns-clause-within : goal.returns-clause-within
 returns-clause-within g c =
-    let base = c.args.ground.now in
+    let base = c.args.dynamic.now in
     let walked = c.documents_are_walkable.ensures in
     subst (AreNodes base) (sym (c.in_order.ensures.numbers (nodes_of base) (are_numbers base.doc.now c.from.out.items walked (c.from.invariant walked).within)))
     (ordered_within base walked (λ node. is_among node.number c.from.out.items))

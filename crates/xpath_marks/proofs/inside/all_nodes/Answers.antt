@@ -9,7 +9,7 @@ use Rattle.xpath_marks.proofs.inside.all_nodes.Goals as goal
 
 pub nodes-preserved : goal.nodes-preserved
 nodes-preserved g c =
-    let base = c.args.ground.now in
+    let base = c.args.dynamic.now in
     let n = c.in-Some.n in
     let doc = c.documents_are_walkable.ensures in
     let within : n < count base = at_some (λ m. m < count base) c.nodes.next n c.in-Some.is c.nodes.invariant.next in

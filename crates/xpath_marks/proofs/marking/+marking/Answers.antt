@@ -19,18 +19,18 @@ use Rattle.xpath_marks.proofs.marking.+marking.Goals as goal
 
 pub chain-returns-in_default-clause-marked : goal.chain-returns-in_default-clause-marked
 chain-returns-in_default-clause-marked g t c =
-    subst (λ ps. Marked c.args.ground.now (chained (operands_of c.args.ground.now.names.now ps)) c.new.result.items)
+    subst (λ ps. Marked c.args.dynamic.now (chained (operands_of c.args.dynamic.now.names.now ps)) c.new.result.items)
     (sym (none_of_none c.args.parts.now c.in_default.ensures.cases))
-    (λ p. nothing_found c.args.ground.now c.new.result.items c.new.ensures.items)
+    (λ p. nothing_found c.args.dynamic.now c.new.result.items c.new.ensures.items)
 
 pub found-returns-in_default-clause-cost : goal.found-returns-in_default-clause-cost
 found-returns-in_default-clause-cost g t c = λ name e.
-    absurd (empty_alone c.args.ground.now.names.now c.args.work.now c.in-Node.kind c.in-Node.parts name c.in-Node.is
+    absurd (empty_alone c.args.dynamic.now.names.now c.args.work.now c.in-Node.kind c.in-Node.parts name c.in-Node.is
     (sym c.as_slice.ensures ∙ none_of_none c.as_slice.result.now c.in_default.ensures.cases) e)
 
 pub found-returns-then-is_found_by_first-clause-marked : goal.found-returns-then-is_found_by_first-clause-marked
 found-returns-then-is_found_by_first-clause-marked g t c =
-    let base = c.args.ground.now in
+    let base = c.args.dynamic.now in
     let first = c.in-Some.first.now in
     let others = c.in-Some.others.now in
     let kind = c.in-Node.kind in
@@ -43,7 +43,7 @@ found-returns-then-is_found_by_first-clause-marked g t c =
 
 pub found-returns-then-is_found_by_first-clause-cost : goal.found-returns-then-is_found_by_first-clause-cost
 found-returns-then-is_found_by_first-clause-cost g t c =
-    let base = c.args.ground.now in
+    let base = c.args.dynamic.now in
     let first = c.in-Some.first.now in
     let others = c.in-Some.others.now in
     let kind = c.in-Node.kind in
@@ -54,7 +54,7 @@ found-returns-then-is_found_by_first-clause-cost g t c =
 
 pub found-returns-then-is_chain-clause-marked : goal.found-returns-then-is_chain-clause-marked
 found-returns-then-is_chain-clause-marked g t c =
-    let base = c.args.ground.now in
+    let base = c.args.dynamic.now in
     let lent = c.as_slice-then-is_chain.result.now in
     along_ok c.chain.result (λ found. Marked base (chained (operands_of base.names.now lent)) found.items)
     (λ found. Marked base (seen base.names.now c.args.work.now) found.items)
@@ -64,7 +64,7 @@ found-returns-then-is_chain-clause-marked g t c =
 
 pub found-returns-then-is_chain-clause-cost : goal.found-returns-then-is_chain-clause-cost
 found-returns-then-is_chain-clause-cost g t c =
-    let base = c.args.ground.now in
+    let base = c.args.dynamic.now in
     let first = c.in-Some.first.now in
     let others = c.in-Some.others.now in
     let kind = c.in-Node.kind in
@@ -75,14 +75,14 @@ found-returns-then-is_chain-clause-cost g t c =
 
 pub found-from_around-requires-clause-children : goal.found-from_around-requires-clause-children
 found-from_around-requires-clause-children g t c =
-    let base = c.args.ground.now in
+    let base = c.args.dynamic.now in
     let divided : c.in-Node.parts ≡ c.in-Some.first.now ∷ c.in-Some.others.now = sym c.as_slice.ensures ∙ c.in-Some.ensures.cases.0 in
     filter_children base c.args.work.now c.in-Node.kind c.in-Node.parts c.in-Some.first.now c.in-Some.others.now c.in-Some-filtered_name.k c.in-Node.is divided
     c.in-Some-filtered_name.ensures.filter c.in-Some-filtered_name.ensures.step
 
 pub found-returns-in-Some-filtered_name-clause-marked : goal.found-returns-in-Some-filtered_name-clause-marked
 found-returns-in-Some-filtered_name-clause-marked g t c =
-    let base = c.args.ground.now in
+    let base = c.args.dynamic.now in
     let first = c.in-Some.first.now in
     let others = c.in-Some.others.now in
     let kind = c.in-Node.kind in
@@ -96,7 +96,7 @@ found-returns-in-Some-filtered_name-clause-marked g t c =
 
 pub found-returns-in-Some-filtered_name-clause-cost : goal.found-returns-in-Some-filtered_name-clause-cost
 found-returns-in-Some-filtered_name-clause-cost g t c =
-    let base = c.args.ground.now in
+    let base = c.args.dynamic.now in
     let first = c.in-Some.first.now in
     let others = c.in-Some.others.now in
     let kind = c.in-Node.kind in
@@ -107,7 +107,7 @@ found-returns-in-Some-filtered_name-clause-cost g t c =
 
 pub found-returns-in-None-clause-marked : goal.found-returns-in-None-clause-marked
 found-returns-in-None-clause-marked g t c =
-    let base = c.args.ground.now in
+    let base = c.args.dynamic.now in
     let first = c.in-Some.first.now in
     let others = c.in-Some.others.now in
     let kind = c.in-Node.kind in
@@ -121,7 +121,7 @@ found-returns-in-None-clause-marked g t c =
 
 pub found-returns-in-None-clause-cost : goal.found-returns-in-None-clause-cost
 found-returns-in-None-clause-cost g t c =
-    let base = c.args.ground.now in
+    let base = c.args.dynamic.now in
     let first = c.in-Some.first.now in
     let others = c.in-Some.others.now in
     let kind = c.in-Node.kind in
@@ -132,7 +132,7 @@ found-returns-in-None-clause-cost g t c =
 
 pub link_on-returns-in-Below-clause-marked : goal.link_on-returns-in-Below-clause-marked
 link_on-returns-in-Below-clause-marked g t c =
-    let base = c.args.ground.now in
+    let base = c.args.dynamic.now in
     let f = seen base.names.now c.args.work.now in
     along_ok c.reached.result (λ found. Reached base f c.as_slice.result.now found.items)
     (λ found. (e : Exp) → Marked base e c.args.before.items → Marked base (linked e (label_of c.args.link) f) found.items)
@@ -142,7 +142,7 @@ link_on-returns-in-Below-clause-marked g t c =
 
 pub link_on-returns-in_ok-inside-in-Inside-clause-marked : goal.link_on-returns-in_ok-inside-in-Inside-clause-marked
 link_on-returns-in_ok-inside-in-Inside-clause-marked g t c =
-    let base = c.args.ground.now in
+    let base = c.args.dynamic.now in
     let f = seen base.names.now c.args.work.now in
     let inside = c.in_ok-inside-in-Inside.inside.items in
     let is : inside ≡ all_reached (nodes_of base) base.env.now all_inside c.args.before.items =
@@ -155,7 +155,7 @@ link_on-returns-in_ok-inside-in-Inside-clause-marked g t c =
 
 pub link_on-returns-in_ok-other-in-Beside-clause-marked : goal.link_on-returns-in_ok-other-in-Beside-clause-marked
 link_on-returns-in_ok-other-in-Beside-clause-marked g t c =
-    let base = c.args.ground.now in
+    let base = c.args.dynamic.now in
     let f = seen base.names.now c.args.work.now in
     let other = c.in_ok-other-in-Beside.other.items in
     along_ok c.united.result (λ found. found.items ≡ united_of base c.args.before.items other)
@@ -166,12 +166,12 @@ link_on-returns-in_ok-other-in-Beside-clause-marked g t c =
 
 pub link_on-returns-in-Otherwise-clause-marked : goal.link_on-returns-in-Otherwise-clause-marked
 link_on-returns-in-Otherwise-clause-marked g t c = λ e m.
-    otherwise_marked c.args.ground.now c.args.link e (seen c.args.ground.now.names.now c.args.work.now) c.new.result.items c.in-Otherwise.ensures
+    otherwise_marked c.args.dynamic.now c.args.link e (seen c.args.dynamic.now.names.now c.args.work.now) c.new.result.items c.in-Otherwise.ensures
     c.new.ensures.items
 
 pub links_on-parts-preserved : goal.links_on-parts-preserved
 links_on-parts-preserved g t c =
-    let base = c.args.ground.now in
+    let base = c.args.dynamic.now in
     record {
       within = c.in_ok-before.ensures.within;
       held = c.in_ok-before.ensures.held;
@@ -182,7 +182,7 @@ links_on-parts-preserved g t c =
 
 pub found-found-requires : goal.found-found-requires
 found-found-requires g t c κs within =
-    let base = c.args.ground.now in
+    let base = c.args.dynamic.now in
     let lent = c.as_slice.result.now in
     let first = c.in-Some.first.now in
     let others = c.in-Some.others.now in
@@ -201,7 +201,7 @@ found-found-requires g t c κs within =
 
 pub found-chain-requires : goal.found-chain-requires
 found-chain-requires g t c κs within =
-    let base = c.args.ground.now in
+    let base = c.args.dynamic.now in
     let lent = c.as_slice-then-is_chain.result.now in
     let same = c.as_slice-then-is_chain.ensures in
     let node = slots.placed_node base c.args.work.now c.in-Node.kind c.in-Node.parts lent c.in-Node.is same c.requires.placed in (
@@ -216,7 +216,7 @@ chain-found-requires g t c κs within =
     let others = c.in-Some.others.now in
     let divided = c.in-Some.ensures.cases.0 in (
       omega (arith, c.decreases, first-no_deeper parts others first divided),
-      (search rules, (c.requires.ready, (slots.placed_first c.args.ground.now parts others first divided c.requires.placed, c.requires.slots))),
+      (search rules, (c.requires.ready, (slots.placed_first c.args.dynamic.now parts others first divided c.requires.placed, c.requires.slots))),
     )
 
 pub chain-links_on-requires-else-is_operator : goal.chain-links_on-requires-else-is_operator
@@ -233,7 +233,7 @@ chain-links_on-requires-else-is_operator g t c κs within =
           (
             c.in_ok-before.ensures.within,
             (
-              slots.placed_others c.args.ground.now parts others first divided c.requires.placed,
+              slots.placed_others c.args.dynamic.now parts others first divided c.requires.placed,
               c.in_ok-before.ensures.held,
             ),
           ),
@@ -251,7 +251,7 @@ links_on-link_on-requires g t c κs within = (
       (
         c.parts.invariant.within,
         (
-          slots.placed_at c.args.ground.now c.args.parts.now c.parts.part-index c.part-item.result c.parts-test.true c.part-item.is c.requires.placed,
+          slots.placed_at c.args.dynamic.now c.args.parts.now c.parts.part-index c.part-item.result c.parts-test.true c.part-item.is c.requires.placed,
           c.parts.invariant.held,
         ),
       ),

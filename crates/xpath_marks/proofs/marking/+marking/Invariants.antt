@@ -21,8 +21,8 @@ decreases-chain g l = 4 * deepest l.parts.now + 3
 
 abbrev pub invariant-links_on-parts : goal.invariant-links_on-parts
 invariant-links_on-parts g l = record {
-  within : AreNodes l.ground l.before.items;
-  held : AreHeld l.ground l.slots;
-  marked : (e : Exp) → Marked l.ground e l.fn.before.items →
-      Marked l.ground (chained_on e (operands_of l.ground.names.now (take l.part-index l.parts))) l.before.items;
+  within : AreNodes l.dynamic l.before.items;
+  held : AreHeld l.dynamic l.slots;
+  marked : (e : Exp) → Marked l.dynamic e l.fn.before.items →
+      Marked l.dynamic (chained_on e (operands_of l.dynamic.names.now (take l.part-index l.parts))) l.before.items;
 }

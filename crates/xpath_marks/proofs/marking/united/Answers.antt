@@ -9,7 +9,7 @@ use Rattle.xpath_marks.proofs.marking.united.Goals as goal
 
 pub returns-clause-marked : goal.returns-clause-marked
 returns-clause-marked c =
-    let base = c.args.ground.now in
+    let base = c.args.dynamic.now in
     let all : AreNodes base c.append.new.self.items =
     subst (AreNodes base) (sym c.in_ok-append.ensures.items) (nodes_append base c.args.before.items c.args.other.items c.requires.before c.requires.other) in
     c.in_order.ensures.numbers (nodes_of base) (are_numbers base.doc.now c.append.new.self.items c.documents_are_walkable.ensures all)
@@ -17,7 +17,7 @@ returns-clause-marked c =
 
 pub returns-clause-within : goal.returns-clause-within
 returns-clause-within c =
-    let base = c.args.ground.now in
+    let base = c.args.dynamic.now in
     let all : AreNodes base c.append.new.self.items =
     subst (AreNodes base) (sym c.in_ok-append.ensures.items) (nodes_append base c.args.before.items c.args.other.items c.requires.before c.requires.other) in
     subst (AreNodes base) (sym (c.in_order.ensures.numbers (nodes_of base)

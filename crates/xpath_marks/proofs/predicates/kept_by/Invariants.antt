@@ -7,8 +7,8 @@ use Rattle.xpath_marks.proofs.predicates.kept_by.Given as goal
 
 abbrev pub invariant-nodes : goal.invariant-nodes
 invariant-nodes g l = record {
-  within : AreNodes l.ground l.kept.items;
-  held : AreHeld l.ground l.slots;
-  goes : l.kept.items ++ kept_nodes (judged l.ground (seen l.ground.names.now l.predicate)) (length l.fn.nodes.items) (l.k + 1) (drop l.k l.fn.nodes.items)
-      ≡ kept_by l.ground (seen l.ground.names.now l.predicate) l.fn.nodes.items;
+  within : AreNodes l.dynamic l.kept.items;
+  held : AreHeld l.dynamic l.slots;
+  goes : l.kept.items ++ kept_nodes (judged l.dynamic (seen l.dynamic.names.now l.predicate)) (length l.fn.nodes.items) (l.k + 1) (drop l.k l.fn.nodes.items)
+      ≡ kept_by l.dynamic (seen l.dynamic.names.now l.predicate) l.fn.nodes.items;
 }

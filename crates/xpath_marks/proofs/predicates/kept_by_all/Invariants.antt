@@ -6,8 +6,8 @@ use Rattle.xpath_marks.proofs.predicates.kept_by_all.Given as goal
 
 abbrev pub invariant-predicates : goal.invariant-predicates
 invariant-predicates g l = record {
-  within : AreNodes l.ground l.nodes.items;
-  held : AreHeld l.ground l.slots;
-  goes : kept_by_all l.ground (operands_of l.ground.names.now (drop l.predicate-index l.predicates)) l.nodes.items
-      ≡ kept_by_all l.ground (operands_of l.ground.names.now l.predicates) l.fn.nodes.items;
+  within : AreNodes l.dynamic l.nodes.items;
+  held : AreHeld l.dynamic l.slots;
+  goes : kept_by_all l.dynamic (operands_of l.dynamic.names.now (drop l.predicate-index l.predicates)) l.nodes.items
+      ≡ kept_by_all l.dynamic (operands_of l.dynamic.names.now l.predicates) l.fn.nodes.items;
 }

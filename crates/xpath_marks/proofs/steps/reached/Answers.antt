@@ -9,11 +9,12 @@ use Rattle.xpath_marks.proofs.TurnLemmas.{item_within, flat_done, ordered_within
 use Rattle.xpath_marks.proofs.steps.reached.Goals as goal
 
 pub turn-requires-clause-within : goal.turn-requires-clause-within
-turn-requires-clause-within g c = item_within c.args.ground.now c.args.from.now c.from.n-index c.n-item.result c.n-item.is refl c.requires.from c.from-test.true
+turn-requires-clause-within g c = item_within c.args.dynamic.now c.args.from.now c.from.n-index c.n-item.result c.n-item.is refl c.requires.from
+    c.from-test.true
 
 pub returns-clause-reached : goal.returns-clause-reached
 returns-clause-reached g c = λ s.
-    let base = c.args.ground.now in
+    let base = c.args.dynamic.now in
     let step = seen base.names.now c.args.work.now in
     let walked = c.documents_are_walkable.ensures in
     c.in_order.ensures.numbers (nodes_of base) (are_numbers base.doc.now c.from.out.items walked c.from.invariant.within)
@@ -22,7 +23,7 @@ returns-clause-reached g c = λ s.
 
 pub returns-clause-within : goal.returns-clause-within
 returns-clause-within g c =
-    let base = c.args.ground.now in
+    let base = c.args.dynamic.now in
     let walked = c.documents_are_walkable.ensures in
     subst (AreNodes base) (sym (c.in_order.ensures.numbers (nodes_of base) (are_numbers base.doc.now c.from.out.items walked c.from.invariant.within)))
     (ordered_within base walked (λ node. is_among node.number c.from.out.items))

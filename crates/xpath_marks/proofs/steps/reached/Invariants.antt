@@ -9,10 +9,10 @@ use Rattle.xpath_marks.proofs.steps.reached.Given as goal
 
 abbrev pub invariant-from : goal.invariant-from
 invariant-from g l =
-    let step = seen l.ground.names.now l.work in
-    let f = found_at (nodes_of l.ground) l.ground.env.now step in
+    let step = seen l.dynamic.names.now l.work in
+    let f = found_at (nodes_of l.dynamic) l.dynamic.env.now step in
     record {
-      within : AreNodes l.ground l.out.items;
-      held : AreHeld l.ground l.slots;
+      within : AreNodes l.dynamic l.out.items;
+      held : AreHeld l.dynamic l.slots;
       goes : is_step step ≡ true → l.out.items ++ flat_map f (drop l.n-index l.from) ≡ flat_map f l.from;
     }

@@ -8,14 +8,14 @@ use Rattle.xpath_parts.proofs.at_hand.of_slot.Goals as goal
 
 pub returns-in-Some-clause-value : goal.returns-in-Some-clause-value
 returns-in-Some-clause-value c =
-    subst (λ kind. IfSome c.lent.result (λ found. lent_value found ≡ value_in c.args.ground.now
-    (made kind (operands_of c.args.ground.now.names.now c.args.parts.now)) c.args.focus.now c.args.bound.now)) (sym c.in-Some.ensures.once)
-    (kept_if_there c.args.ground.now c.args.slots.now c.in-Some.slot (length c.args.bound.now) c.args.parts.now c.args.focus.now c.args.bound.now
-    c.lent.result (subst (λ kind. PlacedNode c.args.ground.now kind c.args.parts.now) c.in-Some.ensures.once c.requires.placed) c.requires.slots
+    subst (λ kind. IfSome c.lent.result (λ found. lent_value found ≡ value_in c.args.dynamic.now
+    (made kind (operands_of c.args.dynamic.now.names.now c.args.parts.now)) c.args.focus.now c.args.bound.now)) (sym c.in-Some.ensures.once)
+    (kept_if_there c.args.dynamic.now c.args.slots.now c.in-Some.slot (length c.args.bound.now) c.args.parts.now c.args.focus.now c.args.bound.now
+    c.lent.result (subst (λ kind. PlacedNode c.args.dynamic.now kind c.args.parts.now) c.in-Some.ensures.once c.requires.placed) c.requires.slots
     c.in-Some.ensures.node refl c.lent.ensures).0
 
 pub returns-in-Some-clause-within : goal.returns-in-Some-clause-within
 returns-in-Some-clause-within c =
-    (kept_if_there c.args.ground.now c.args.slots.now c.in-Some.slot (length c.args.bound.now) c.args.parts.now c.args.focus.now c.args.bound.now
-    c.lent.result (subst (λ kind. PlacedNode c.args.ground.now kind c.args.parts.now) c.in-Some.ensures.once c.requires.placed) c.requires.slots
+    (kept_if_there c.args.dynamic.now c.args.slots.now c.in-Some.slot (length c.args.bound.now) c.args.parts.now c.args.focus.now c.args.bound.now
+    c.lent.result (subst (λ kind. PlacedNode c.args.dynamic.now kind c.args.parts.now) c.in-Some.ensures.once c.requires.placed) c.requires.slots
     c.in-Some.ensures.node refl c.lent.ensures).1

@@ -1,5 +1,5 @@
 use Rattle.std.proofs.Common.{◌∙◌, ap, sym}
-use Rattle.xpath_plan.specs.declared.work.Work.TheVariants as w
+use Rattle.xpath_plan.specs.declared.plan_node.PlanNode.TheVariants as w
 use Rattle.xpath_parts.proofs.NamedLemmas.{item-of_simple, item-of_node}
 use Rattle.xpath_parts.proofs.named.is_item_alone.Goals as goal
 

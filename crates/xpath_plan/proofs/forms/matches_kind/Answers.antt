@@ -1,7 +1,7 @@
 use Rattle.std.proofs.Common.{sym, ap, subst, ◌∙◌, List, ℕ, Err, chars}
 use Rattle.xsd_pattern.specs.declared.fault.PatternFault.{PatternFault}
 use Rattle.xsd_pattern.specs.Matching.{Judges, fault_of}
-use Rattle.xpath_plan.specs.declared.work.Kind.TheVariants as m
+use Rattle.xpath_plan.specs.declared.plan_node.Operation.TheVariants as m
 use Rattle.xpath_plan.specs.Kinds.{pattern_kind, matches_kind}
 use Rattle.xpath_plan.proofs.forms.matches_kind.Goals as goal
 

@@ -1,5 +1,5 @@
 use Rattle.std.proofs.Common.{◌++◌, ◌∷◌, [], ap, ◌∙◌}
-use Rattle.xpath_plan.specs.declared.work.Link.TheVariants as l
+use Rattle.xpath_plan.specs.declared.plan_node.Separator.TheVariants as l
 use Rattle.xpath_plan.proofs.SeenLaws.{slot-known}
 use Rattle.xpath_plan.proofs.marks.in_slot.Goals as goal
 

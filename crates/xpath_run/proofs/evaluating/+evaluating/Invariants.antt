@@ -77,80 +77,80 @@ decreases-operand g l = 8 * depth l.work.now + 1
 abbrev pub invariant-values_of-parts : goal.invariant-values_of-parts
 invariant-values_of-parts g l = record {
   kept : l.bound.items ≡ l.initial.bound.items;
-  held : AreHeld l.ground l.slots;
+  held : AreHeld l.dynamic l.slots;
   grown : Grows l.fn.slots l.slots;
-  goes : behind_those l.values (means (tree_nodes l.ground.doc.now) (arguments_of (operands_of l.ground.names.now (drop l.part-index l.parts)))
-      (context l.ground l.focus l.initial.bound.items))
-      ≡ means (tree_nodes l.ground.doc.now) (arguments_of (operands_of l.ground.names.now l.parts)) (context l.ground l.focus l.initial.bound.items);
-  within : AllWithin (count l.ground) l.values;
+  goes : behind_those l.values (means (tree_nodes l.dynamic.doc.now) (arguments_of (operands_of l.dynamic.names.now (drop l.part-index l.parts)))
+      (context l.dynamic l.focus l.initial.bound.items))
+      ≡ means (tree_nodes l.dynamic.doc.now) (arguments_of (operands_of l.dynamic.names.now l.parts)) (context l.dynamic l.focus l.initial.bound.items);
+  within : AllWithin (count l.dynamic) l.values;
 }
 
 abbrev pub invariant-links_on-parts : goal.invariant-links_on-parts
 invariant-links_on-parts g l = record {
   kept : l.bound.items ≡ l.initial.bound.items;
-  held : AreHeld l.ground l.slots;
+  held : AreHeld l.dynamic l.slots;
   grown : Grows l.fn.slots l.slots;
-  goes : links.chain_value (tree_nodes l.ground.doc.now) (links.linked_parts l.ground.names.now (drop l.part-index l.parts)) (value l.so_far)
-      (context l.ground l.focus l.initial.bound.items)
-      ≡ links.chain_value (tree_nodes l.ground.doc.now) (links.linked_parts l.ground.names.now l.parts) (value l.initial.so_far)
-      (context l.ground l.focus l.initial.bound.items);
-  within : ValueWithin (count l.ground) (value l.so_far);
+  goes : links.chain_value (tree_nodes l.dynamic.doc.now) (links.linked_parts l.dynamic.names.now (drop l.part-index l.parts)) (value l.so_far)
+      (context l.dynamic l.focus l.initial.bound.items)
+      ≡ links.chain_value (tree_nodes l.dynamic.doc.now) (links.linked_parts l.dynamic.names.now l.parts) (value l.initial.so_far)
+      (context l.dynamic l.focus l.initial.bound.items);
+  within : ValueWithin (count l.dynamic) (value l.so_far);
 }
 
 abbrev pub invariant-turns-items : goal.invariant-turns-items
 invariant-turns-items g l = record {
   kept : l.bound.items ≡ l.initial.bound.items;
-  held : AreHeld l.ground l.slots;
+  held : AreHeld l.dynamic l.slots;
   grown : Grows l.fn.slots l.slots;
   left : into_iter_len l.item-iterator ≡ length (into_iter_items l.item-iterator);
   counted : l.position + length (into_iter_items l.item-iterator) ≡ l.last;
-  goes : behind_those l.out (steps.turns (turn_in l.ground (seen l.ground.names.now l.work) l.initial.bound.items) l.last (suc l.position)
+  goes : behind_those l.out (steps.turns (turn_in l.dynamic (seen l.dynamic.names.now l.work) l.initial.bound.items) l.last (suc l.position)
       (into_iter_items l.item-iterator))
-      ≡ steps.turns (turn_in l.ground (seen l.ground.names.now l.work) l.initial.bound.items) (length l.fn.items) 1 l.fn.items;
-  inside : AreWithin (count l.ground) (into_iter_items l.item-iterator);
-  within : AreWithin (count l.ground) l.out;
+      ≡ steps.turns (turn_in l.dynamic (seen l.dynamic.names.now l.work) l.initial.bound.items) (length l.fn.items) 1 l.fn.items;
+  inside : AreWithin (count l.dynamic) (into_iter_items l.item-iterator);
+  within : AreWithin (count l.dynamic) l.out;
 }
 
 abbrev pub invariant-keep-items : goal.invariant-keep-items
 invariant-keep-items g l = record {
   kept : l.bound.items ≡ l.initial.bound.items;
-  held : AreHeld l.ground l.slots;
+  held : AreHeld l.dynamic l.slots;
   grown : Grows l.fn.slots l.slots;
   left : into_iter_len l.item-iterator ≡ length (into_iter_items l.item-iterator);
   counted : l.position + length (into_iter_items l.item-iterator) ≡ l.last;
-  goes : behind_those l.kept (steps.kept (turn_in l.ground (seen l.ground.names.now l.predicate) l.initial.bound.items) l.last (suc l.position)
+  goes : behind_those l.kept (steps.kept (turn_in l.dynamic (seen l.dynamic.names.now l.predicate) l.initial.bound.items) l.last (suc l.position)
       (into_iter_items l.item-iterator))
-      ≡ steps.filtered_by (turn_in l.ground (seen l.ground.names.now l.predicate) l.initial.bound.items) l.fn.items;
-  inside : AreWithin (count l.ground) (into_iter_items l.item-iterator);
-  within : AreWithin (count l.ground) l.kept;
+      ≡ steps.filtered_by (turn_in l.dynamic (seen l.dynamic.names.now l.predicate) l.initial.bound.items) l.fn.items;
+  inside : AreWithin (count l.dynamic) (into_iter_items l.item-iterator);
+  within : AreWithin (count l.dynamic) l.kept;
 }
 
 abbrev pub invariant-keep_all-predicates : goal.invariant-keep_all-predicates
 invariant-keep_all-predicates g l = record {
   kept : l.bound.items ≡ l.initial.bound.items;
-  held : AreHeld l.ground l.slots;
+  held : AreHeld l.dynamic l.slots;
   grown : Grows l.fn.slots l.slots;
-  goes : links.kept_by_all (λ e. turn_in l.ground e l.initial.bound.items) (operands_of l.ground.names.now (drop l.predicate-index l.predicates)) l.kept
-      ≡ links.kept_by_all (λ e. turn_in l.ground e l.initial.bound.items) (operands_of l.ground.names.now l.predicates) l.initial.kept;
-  within : AreWithin (count l.ground) l.kept;
+  goes : links.kept_by_all (λ e. turn_in l.dynamic e l.initial.bound.items) (operands_of l.dynamic.names.now (drop l.predicate-index l.predicates)) l.kept
+      ≡ links.kept_by_all (λ e. turn_in l.dynamic e l.initial.bound.items) (operands_of l.dynamic.names.now l.predicates) l.initial.kept;
+  within : AreWithin (count l.dynamic) l.kept;
 }
 
 abbrev pub invariant-take_turns-turns : goal.invariant-take_turns-turns
 invariant-take_turns-turns g l = record {
   kept : take l.height l.bound.items ≡ l.initial.bound.items;
-  held : AreHeld l.ground l.slots;
+  held : AreHeld l.dynamic l.slots;
   grown : Grows l.fn.slots l.slots;
   room : l.height + length l.turns.items ≤ length l.bound.items + 1;
   fewer : length l.turns.items ≤ length l.inside;
-  goes : after l.binder l.out (to_come l.binder (tree_nodes l.ground.doc.now) (operands_of l.ground.names.now l.inside)
-      (level l.ground l.focus l.bound.items l.height) (reverse l.turns.items))
-      ≡ links.bound_value l.binder (tree_nodes l.ground.doc.now) (operands_of l.ground.names.now l.inside) l.fn.items
-      (context l.ground l.focus l.initial.bound.items);
-  bound : AreWithin (count l.ground) l.bound.items;
-  turns : AllWithin (count l.ground) l.turns.items;
-  within : AreWithin (count l.ground) l.out;
+  goes : after l.binder l.out (to_come l.binder (tree_nodes l.dynamic.doc.now) (operands_of l.dynamic.names.now l.inside)
+      (level l.dynamic l.focus l.bound.items l.height) (reverse l.turns.items))
+      ≡ links.bound_value l.binder (tree_nodes l.dynamic.doc.now) (operands_of l.dynamic.names.now l.inside) l.fn.items
+      (context l.dynamic l.focus l.initial.bound.items);
+  bound : AreWithin (count l.dynamic) l.bound.items;
+  turns : AllWithin (count l.dynamic) l.turns.items;
+  within : AreWithin (count l.dynamic) l.out;
 }
 
 abbrev pub decreases-take_turns-turns : goal.decreases-take_turns-turns
 decreases-take_turns-turns g l =
-    costs (tree_nodes l.ground.doc.now) (operands_of l.ground.names.now l.inside) (level l.ground l.focus l.bound.items l.height) (reverse l.turns.items)
+    costs (tree_nodes l.dynamic.doc.now) (operands_of l.dynamic.names.now l.inside) (level l.dynamic l.focus l.bound.items l.height) (reverse l.turns.items)

@@ -1,7 +1,7 @@
 use Rattle.std.proofs.Common.{◌++◌, ◌∙◌, ap, sym}
 use Rattle.node_arena.specs.Moves.{tree_nodes}
 use Rattle.xpath_grammar.specs.declared.step.Axis.TheVariants as a
-use Rattle.xpath_plan.specs.declared.work.StepTest.TheVariants as t
+use Rattle.xpath_plan.specs.declared.plan_node.StepTest.TheVariants as t
 use Rattle.xpath_plan.specs.Plans.{test_seen}
 use Rattle.xpath_walks.specs.Order.{node_items}
 use Rattle.xpath_walks.specs.Walks.{axis_numbers}

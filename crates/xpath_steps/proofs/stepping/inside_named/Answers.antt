@@ -5,7 +5,7 @@ use Rattle.xpath_grammar.specs.declared.step.Axis.TheVariants as a
 use Rattle.xpath_items.specs.declared.item.Item.TheVariants as i
 use Rattle.xpath_meaning.specs.Steps.{in_document_order}
 use Rattle.xpath_operators.specs.Nodes.{AreWithin}
-use Rattle.xpath_plan.specs.declared.work.StepTest.TheVariants as t
+use Rattle.xpath_plan.specs.declared.plan_node.StepTest.TheVariants as t
 use Rattle.xpath_plan.specs.Plans.{test_seen}
 use Rattle.xpath_walks.specs.Order.{node_items}
 use Rattle.xpath_walks.specs.Walks.{axis_numbers}

@@ -1,7 +1,7 @@
 use Rattle.std.proofs.Common.{◌≡◌, ◌-◌, ◌<◌, ◌≤◌, List, Some, None, length, IfSome}
 use Rattle.inv_base.specs.Tree.{Name}
 use Rattle.node_arena.specs.Moves.{tree_nodes}
-use Rattle.xpath_plan.specs.declared.work.StepTest.TheVariants as t
+use Rattle.xpath_plan.specs.declared.plan_node.StepTest.TheVariants as t
 use Rattle.xpath_plan.specs.Plans.{test_seen}
 use Rattle.xpath_walks.specs.Tests.{numbers_of}
 use Rattle.xpath_walks.specs.Walks.{has_wanted}

@@ -2,7 +2,7 @@ use Rattle.std.proofs.Common.{◌<◌, ◌++◌, ◌∙◌, ap, refl, sym, subst
 use Rattle.std.proofs.lemmas.List.{length-map, append-nil}
 use Rattle.node_arena.specs.Moves.{tree_nodes, node_of}
 use Rattle.xpath_grammar.specs.declared.step.Axis.TheVariants as a
-use Rattle.xpath_plan.specs.declared.work.StepTest.TheVariants as t
+use Rattle.xpath_plan.specs.declared.plan_node.StepTest.TheVariants as t
 use Rattle.xpath_plan.specs.Plans.{test_seen}
 use Rattle.xpath_walks.specs.Order.{node_items}
 use Rattle.xpath_walks.proofs.ForwardLemmas.{found_is}

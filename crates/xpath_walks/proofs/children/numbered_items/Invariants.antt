@@ -2,7 +2,7 @@ use Rattle.std.proofs.Common.{◌≡◌, ◌-◌, ◌<◌, ◌++◌, List, Some,
 use Rattle.inv_base.specs.Tree.{Name}
 use Rattle.node_arena.specs.Moves.{tree_nodes, tree_node}
 use Rattle.xpath_grammar.specs.declared.step.Axis.TheVariants as a
-use Rattle.xpath_plan.specs.declared.work.StepTest.TheVariants as t
+use Rattle.xpath_plan.specs.declared.plan_node.StepTest.TheVariants as t
 use Rattle.xpath_plan.specs.Plans.{test_seen}
 use Rattle.xpath_walks.specs.declared.walk.Way.TheVariants as w
 use Rattle.xpath_walks.specs.Order.{node_items}

@@ -10,7 +10,7 @@ push-requires-clause-steps c =
     let lent = c.as_slice.ensures.value in
     let same : c.args.self.now ≡ c.as_slice.result.now = cc in
     subst HasSteps (sym c.in_ok-row.ensures)
-    (added-steps c.args.which c.as_slice.result.now c.args.term.now (subst (λ (rows : List Row). HasRoom rows c.args.term.now) same c.requires.room))
+    (added-steps c.args.document_type c.as_slice.result.now c.args.term.now (subst (λ (rows : List Row). HasRoom rows c.args.term.now) same c.requires.room))
 
 pub push-requires-clause-numbers : goal.push-requires-clause-numbers
 push-requires-clause-numbers c =
@@ -18,4 +18,4 @@ push-requires-clause-numbers c =
     let lent = c.as_slice.ensures.value in
     let same : c.args.self.now ≡ c.as_slice.result.now = cc in
     subst HasSmallNumbers (sym c.in_ok-row.ensures)
-    (added-numbers c.args.which c.as_slice.result.now c.args.term.now (subst (λ (rows : List Row). HasRoom rows c.args.term.now) same c.requires.room))
+    (added-numbers c.args.document_type c.as_slice.result.now c.args.term.now (subst (λ (rows : List Row). HasRoom rows c.args.term.now) same c.requires.room))

@@ -8,7 +8,7 @@ returns-then-not-has_room g c =
     breaks-as _ _ _ _ _ _ _ _ c.too_long.ensures (is-beyond _ _ _ _ _ _ _ _ c.requires.begins (sym c.has_room.ensures ∙ c.if-not-has_room.true) (λ events t. t))
 
 pub advance-requires-clause-within : goal.advance-requires-clause-within
-advance-requires-clause-within g c = (token-within c.args.self.now.nest _ _ _ _ c.requires.begins).1
+advance-requires-clause-within g c = (token-within c.args.self.now.open_elements _ _ _ _ c.requires.begins).1
 
 pub returns-in-Ok : goal.returns-in-Ok
 returns-in-Ok g c =

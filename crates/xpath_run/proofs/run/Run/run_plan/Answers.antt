@@ -2,7 +2,7 @@ use Rattle.std.proofs.Common.{◌≡◌, IfOk, [], sym, ap, ◌∙◌, subst, le
 use Rattle.node_arena.specs.Moves.{tree_nodes}
 use Rattle.xpath_meaning.specs.Meaning.{mean}
 use Rattle.xpath_meaning.specs.Values.{value}
-use Rattle.xpath_plan.specs.declared.work.StepTest.TheVariants as t
+use Rattle.xpath_plan.specs.declared.plan_node.StepTest.TheVariants as t
 use Rattle.xpath_plan.specs.Plans.{seen, test_seen}
 use Rattle.xpath_parts.specs.Named.{IsEmptyAt, walk_of}
 use Rattle.xpath_parts.proofs.SlotLemmas as slots

@@ -1,5 +1,0 @@
-use Rattle.std.proofs.Common.{refl, drop}
-use Rattle.held_output.proofs.held.HeldOutput.give_up.Goals as goal
-
-pub returns-clause-front : goal.returns-clause-front
-returns-clause-front g c = record { rest = drop c.args.self.sent c.args.self.held.items; whole = refl; since = c.args.self.since; faults = refl }

@@ -1,7 +1,0 @@
-pub mod Lines
-pub mod Course
-pub mod Outside
-pub mod Runs
-pub mod Libraries
-pub mod Views
-pub mod Documents

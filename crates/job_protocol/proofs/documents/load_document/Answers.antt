@@ -1,0 +1,9 @@
+use Rattle.job_protocol.proofs.FileLemmas.{document_failed}
+use Rattle.job_protocol.proofs.documents.load_document.Goals as goal
+
+pub returns-in-Err-clause-failed : goal.returns-in-Err-clause-failed
+returns-in-Err-clause-failed g c = λ next out.
+    let found = c.in-Err.ensures in
+    document_failed c.args.name.now (g.S.Shelf.view c.args.shelf.now) (g.S.Shelf.view c.load.new.shelf) out (g.E.Sink.view c.args.err.now)
+    (g.E.Sink.view c.refuse_document.new.err) (λ bytes f. next f) c.in-Err.fault c.refuse_document.result found.reads
+    (λ fault is. found.refused fault cc) (λ fault is. found.stops fault cc) c.refuse_document.ensures

@@ -1,8 +1,0 @@
-use Rattle.std.proofs.Common.{ap}
-use Rattle.xml_tokens.specs.declared.beginning.Position.TheVariants.{BehindMark}
-use Rattle.xml_state.specs.States.{State, state_behind}
-use Rattle.xml_state.proofs.nest.Nest.pass_mark.Goals as goal
-
-pub returns : goal.returns
-unfolding state_behind
-returns c = ap (λ (s : State). record s { position = BehindMark }) c.self.view_is

@@ -94,8 +94,10 @@ stands_beside picks placeholder pick = list_any (λ (other : Pick). has_term pla
 
 abbrev pub is_placeholder : List Node → List Pick → Pick → Bool
 is_placeholder nodes picks pick = elim pick.row.written [
-  | (written.OrPlaceholder placeholder) ↦ elim (bytes_eq (trimmed (string_at nodes pick.node)) placeholder.text) [ true ↦ stands_beside picks placeholder pick
-      | false ↦ false ]
+  | (written.OrPlaceholder placeholder) ↦ elim (bytes_eq (trimmed (string_at nodes pick.node)) placeholder.text) [
+    | true ↦ stands_beside picks placeholder pick
+    | false ↦ false
+  ]
   | _ ↦ false
 ]
 

@@ -114,7 +114,7 @@ terms-rise table before (term ∷ e) h =
     let data_type = both (not (is_base64 term.data_type)) _ high.1 in
     let paths = both (are_paths term.paths) (are_terms term.number e) data_type.1 in
     rising-more table before term (path_for table term.paths) (terms_for table e) (ltb-true before term.number low.0) (leb-true term.number 99 high.0)
-        data_type.0
+    data_type.0
     (path-there table term.paths paths.0) (terms-rise table term.number e paths.1)
 
 pub rising : (table : DocumentType) (e : List ExtTerm) → is_extension e ≡ true → Rising table 0 (terms_for table e)
@@ -172,7 +172,7 @@ added-is table rows a file =
     (extension-term a.number file.least file.most)
     ∙ and-so (is_root_or_line a.outer a.inner) (is_unmarked (added_row table rows a)) (stands-there table a file)
     (and-so (list_all is_unguarded (path_of rows (greatest rows) [] (names_for (built rows) a))) (is_added_type (data_type_of_form (form_of_type table
-        a.data_type)))
+    a.data_type)))
     (free-path rows (greatest rows) [] (names_for (built rows) a)) (ap is_added_type (data_type-kept table a.data_type) ∙ file.data_type))
 
 -- so the built-in part stays

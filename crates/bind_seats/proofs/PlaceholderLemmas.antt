@@ -104,7 +104,7 @@ marks-are nodes s rows p is placeholder all =
     ∙ (any-map (λ q. passes test (mark q)) kept (in_order nodes ps)
     ∙ (any-in_order (λ q. passes test (mark (kept q))) nodes ps s.numbered within
     ∙ any-alike (λ q. passes test (mark (kept q))) (λ (q : Pick). has_term placeholder.beside q.row && bytes_eq (around_last q.elements) (around_last
-        p.elements)) ps
+    p.elements)) ps
     (All-weaker (IsPick nodes rows) (λ q. passes test (mark (kept q))
     ≡ (has_term placeholder.beside q.row && bytes_eq (around_last q.elements) (around_last p.elements)))
     (λ q w. ap (λ (r : Row). passes test (mark_beside nodes (terms_beside rows) r q.node)) (row-is rows q w.of_row)

@@ -235,27 +235,27 @@ module _ (nodes : List Node) (order : AreInOrder nodes) (some : 0 < length nodes
   module _ (picks : List PlacedPick) (es : Entries) (was given : List Found → Type 0) (firsts : List First) (h : HasTold nodes lists rows es was)
       (picks_are : picks ≡ all_kept_placed (term_places nodes rows)) (firsts_are : firsts ≡ map (λ (e : List ℕ × First). e.1) es)
       (violations : (qs : List Placed) → picks ≡ all_kept_placed qs → Puts was given (flat_map (violations_in nodes (map seat_of_first firsts)) (rooms qs)))
-          where
-    alike : (p : Seat → Bool) → list_any p (map seat_of_first firsts) ≡ list_any p (map seat_of (all_told nodes rows))
-    alike p =
-        any-map seat_of_first p firsts ∙ (ap (list_any (λ (f : First). p (seat_of_first f))) firsts_are
-        ∙ (any-map (λ (e : List ℕ × First). e.1) (λ (f : First). p (seat_of_first f)) es ∙ (h.same_seats p ∙ sym (any-map seat_of p (all_told nodes rows)))))
+    where
+      alike : (p : Seat → Bool) → list_any p (map seat_of_first firsts) ≡ list_any p (map seat_of (all_told nodes rows))
+      alike p =
+          any-map seat_of_first p firsts ∙ (ap (list_any (λ (f : First). p (seat_of_first f))) firsts_are
+          ∙ (any-map (λ (e : List ℕ × First). e.1) (λ (f : First). p (seat_of_first f)) es ∙ (h.same_seats p ∙ sym (any-map seat_of p (all_told nodes rows)))))
 
-    violations-put : Puts was given (violations_found nodes rows)
-    violations-put =
-        puts-same was given _ _ (rooms-same nodes (map seat_of_first firsts) (map seat_of (all_told nodes rows)) (rooms (term_places nodes rows)) alike)
-        (violations (term_places nodes rows) picks_are)
+      violations-put : Puts was given (violations_found nodes rows)
+      violations-put =
+          puts-same was given _ _ (rooms-same nodes (map seat_of_first firsts) (map seat_of (all_told nodes rows)) (rooms (term_places nodes rows)) alike)
+          (violations (term_places nodes rows) picks_are)
 
-    invoice-is : found_at_picks nodes lists rows ≡ [] → flat_map entries_of firsts ≡ entries (all_told nodes rows)
-    invoice-is faultless =
-        let whole = all-valued nodes lists (currencies nodes rows) [] (all_told nodes rows) faultless h.placed in
-        ap (flat_map entries_of) (firsts_are ∙ ap kept_firsts h.entries_are) ∙ arranged-listed (all_told nodes rows) whole
+      invoice-is : found_at_picks nodes lists rows ≡ [] → flat_map entries_of firsts ≡ entries (all_told nodes rows)
+      invoice-is faultless =
+          let whole = all-valued nodes lists (currencies nodes rows) [] (all_told nodes rows) faultless h.placed in
+          ap (flat_map entries_of) (firsts_are ∙ ap kept_firsts h.entries_are) ∙ arranged-listed (all_told nodes rows) whole
 
-    pub has-found : HasFound nodes lists rows firsts given
-    has-found = record {
-      is_given = violations-put (found_at_picks nodes lists rows ++ words_found nodes rows) h.is_given;
-      entries_are = invoice-is;
-    }
+      pub has-found : HasFound nodes lists rows firsts given
+      has-found = record {
+        is_given = violations-put (found_at_picks nodes lists rows ++ words_found nodes rows) h.is_given;
+        entries_are = invoice-is;
+      }
 
   -- ---- the first of all, and all in their order
 

@@ -77,7 +77,7 @@ pub lacked-more : (context : Context) (element last : ℕ) (violations : List Mo
     → Type 0)
     (violation : ModelViolation) (one : Found)
     → count < length violations → violation ≡ get_or violations count violation → one ≡ missing_found context element last violation
-        → Lacked context element last violations first count was
+    → Lacked context element last violations first count was
     → Puts was given (one ∷ [])
     → Lacked context element last violations first (count + 1) given
 lacked-more context element last violations first count was given violation one below at one_is before put = record {

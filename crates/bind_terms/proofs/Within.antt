@@ -232,7 +232,7 @@ module _ (nodes : List Node) (order : AreInOrder nodes) (some : 1 < length nodes
       (All-weaker (IsSound nodes order few rows) (λ (pick : Pick). pick.node < count) (λ pick h. h.node) (constant_picks nodes rows)
       (unordered-sound nodes order few rows (λ (row : Row). not (has_any_term row)))))
       (all-flat_map (is_at count) (is_room_at count) (violations_in nodes (map seat_of (told nodes ps))) (violations-at count nodes (map seat_of (told nodes
-          ps)))
+      ps)))
       (rooms ps) (rooms-at count ps some within)))
 
   -- Each of all faults stands at a node, and none is want of memory.

@@ -307,9 +307,9 @@ module _ (es : List Entry) (rises : is_listed es ≡ true) where
       seat-again : (e : Entry) → Tells t e → (u : Told) → Tells u e → is_of_seat t u ≡ true
       seat-again e k u l =
           ap (λ (s : ParsedValue). elim (same_term s.term u.parsed.term) [ true ↦ same_context (context_of t.placed) (context_of u.placed) | false ↦ false ])
-              k.parsed
+          k.parsed
           ∙ (ap (λ (s : ParsedValue). elim (same_term e.term s.term) [ true ↦ same_context (context_of t.placed) (context_of u.placed) | false ↦ false ])
-              l.parsed
+          l.parsed
           ∙ (ap (λ b. elim b [ true ↦ same_context (context_of t.placed) (context_of u.placed) | false ↦ false ]) (same-term-itself e.term)
           ∙ ((λ i. same_context (k.context i) (l.context i)) ∙ same-context-itself e.context)))
 

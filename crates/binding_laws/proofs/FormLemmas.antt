@@ -686,7 +686,7 @@ of-code-parsed forms.CodedNote es c parsed a = go (value_in es meaning.subject_c
   where
     go : (o : Option Value) → value_in es meaning.subject_code c ≡ o →
         Among parsed (elim o [ None ↦ [] | Some code ↦ record { term = meaning.subject_code; value = Some code } ∷ [] ])
-            → IsCodeSaid forms.CodedNote es c parsed
+        → IsCodeSaid forms.CodedNote es c parsed
     go None e m = absurd m
     go (Some code) e (inl is) = record { code = code; at = e; is = is; form_is = refl }
     go (Some code) e (inr z) = absurd z

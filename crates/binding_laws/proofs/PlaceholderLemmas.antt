@@ -277,7 +277,7 @@ module _ (law : Laws) (rows : List Row) (es : List Entry) (invoice : IsInvoice e
             (ap (λ content. is_some (term_in content)) t.spread.content) n.1) r.among;
         has = ap (has_term placeholder.beside) r.row_is ∙
             (ap (λ content. elim (term_in content) [ None ↦ false | Some u ↦ same_term u placeholder.beside ]) t.spread.content
-                ∙ same-term-itself placeholder.beside);
+            ∙ same-term-itself placeholder.beside);
         place = r.picked.place;
         own = row_of;
         way = r.picked.elements;

@@ -526,7 +526,7 @@ module _ (law : Laws) (rows : List Row) (es : List Entry) (invoice : IsInvoice e
           let t = told-by-test rows row term placeholder long_paths p.content rule f in
           let is : w.0.term ≡ placeholder.beside = same_term_is w.0.term placeholder.beside w.1.1 in
           inr (placeholders-not-told law rows es invoice row term placeholder p rule t w.0 w.1.0 is (row-back t.other t.among placeholder.beside
-              t.spread.content w.0 w.1.0 is)
+          t.spread.content w.0 w.1.0 is)
           (row-numbered 1 rows t.other t.among) none)
 
       by-value : (o : Option Value) → value_in es term root_context ≡ o → HasCover row ⊎ NoneTold row
@@ -707,8 +707,11 @@ module _ (law : Laws) (rows : List Row) (es : List Entry) (invoice : IsInvoice e
       IsQuiet es row
   quiet-row row has f c = go row.content refl has
     where
-      unfilled : (rule : Written) (term : Term) → ((t : Term) → Among t (term ∷ elim rule [ (written.OrPlaceholder placeholder) ↦ placeholder.beside ∷ [] | _
-          ↦ [] ]) →
+      unfilled : (rule : Written) (term : Term) → ((t : Term) → Among t (term ∷ elim rule [
+        | (written.OrPlaceholder placeholder) ↦ placeholder.beside ∷ []
+        | _
+            ↦ []
+      ]) →
           (e : Entry) → Among e es → same_term e.term t ≡ false)
           → (d : Context) → filled_text rule es d ≡ None
       unfilled written.Always term g d = refl
@@ -726,7 +729,7 @@ module _ (law : Laws) (rows : List Row) (es : List Entry) (invoice : IsInvoice e
       go (contents.Constant text) e k = absurd (false≢true k)
       go (contents.Term term) e k =
           let g : (t : Term) → Among t (term ∷ elim row.written [ (written.OrPlaceholder placeholder) ↦ placeholder.beside ∷ [] | _ ↦ [] ]) → (x : Entry)
-              → Among x es →
+          → Among x es →
           same_term x.term t ≡ false =
           subst (λ content. (t : Term) →
           Among t (elim content [
@@ -881,7 +884,7 @@ module _ (law : Laws) (rows : List Row) (es : List Entry) (invoice : IsInvoice e
         let w = of-flat_map (λ (node : Node). filter (λ (x : Pick). x.node == node.number)
         (in_their_currencies all_nodes c (without_placeholders all_nodes picked_at_all))) pick all_nodes a in
         let v = of-filter-any (λ (x : Pick). x.node == w.0.number) pick (in_their_currencies all_nodes c (without_placeholders all_nodes picked_at_all)) w.1.1
-            in
+        in
         let u = of-filter-any (is_in_its_currency all_nodes c) pick (without_placeholders all_nodes picked_at_all) v.0 in
         let t = of-filter-any (λ (x : Pick). not (is_placeholder all_nodes picked_at_all x)) pick picked_at_all u.0 in
         let r = of-flat_map (λ (x : Numbered). nodes_picked all_nodes x.place x.row) pick (rows_where has_any_term rows) t.0 in
@@ -903,7 +906,7 @@ module _ (law : Laws) (rows : List Row) (es : List Entry) (invoice : IsInvoice e
     -- nothing is picked of a term that doesn't stand, so no placeholder stands beside it
     no-pick-beside : (placeholder : Placeholder) (pick : Pick) → Absent es placeholder.beside → Among placeholder.beside (flat_map beside_placeholder rows)
         → (elim (bytes_eq (trimmed (string_at all_nodes pick.node)) placeholder.text) [ true ↦ stands_beside picked_at_all placeholder pick | false ↦ false ])
-            ≡ false
+        ≡ false
     no-pick-beside placeholder pick absent known = go (bytes_eq (trimmed (string_at all_nodes pick.node)) placeholder.text)
       where
         none : (other : Pick) → Among other picked_at_all → has_term placeholder.beside other.row ≡ false
@@ -917,7 +920,7 @@ module _ (law : Laws) (rows : List Row) (es : List Entry) (invoice : IsInvoice e
 
         no-other : (others : List Pick) → ((other : Pick) → Among other others → has_term placeholder.beside other.row ≡ false)
             → list_any (λ (other : Pick). has_term placeholder.beside other.row && bytes_eq (around_last other.elements) (around_last pick.elements)) others
-                ≡ false
+            ≡ false
         no-other [] f = refl
         no-other (other ∷ others) f =
             ap (λ b. (b && bytes_eq (around_last other.elements) (around_last pick.elements)) ||
@@ -977,12 +980,15 @@ module _ (law : Laws) (rows : List Row) (es : List Entry) (invoice : IsInvoice e
         no-placeholder-there : (pick : Pick) → string_at all_nodes pick.node ≡ formed (form_for row.form e.term) es e.context e.value
             → (placeholder : Placeholder) →
             row.written ≡ written.OrPlaceholder placeholder → Absent es placeholder.beside ⊎ IsKept law rows es invoice row e.term placeholder
-            → (elim (bytes_eq (trimmed (string_at all_nodes pick.node)) placeholder.text) [ true ↦ stands_beside picked_at_all placeholder pick | false ↦
-                false ]) ≡ false
+            → (elim (bytes_eq (trimmed (string_at all_nodes pick.node)) placeholder.text) [
+              | true ↦ stands_beside picked_at_all placeholder pick
+              | false ↦
+                  false
+            ]) ≡ false
         no-placeholder-there pick string_is placeholder rule (inl absent) = no-pick-beside placeholder pick absent (placeholder-term row b placeholder rule)
         no-placeholder-there pick string_is placeholder rule (inr kept) =
             ap (λ z. elim z [ true ↦ stands_beside picked_at_all placeholder pick | false ↦ false ]) (ap (λ s. bytes_eq (trimmed s) placeholder.text)
-                string_is ∙
+            string_is ∙
             kept.other e a refl)
 
         in-due : (n : ℕ) (place : Place) → Among place (places_at rows es row.path) → IsAt all_nodes es place →
@@ -1411,7 +1417,7 @@ module _ (law : Laws) (rows : List Row) (es : List Entry) (invoice : IsInvoice e
         let seat = one-seat es invoice.listed a b same in
         let one : v.0 ≡ w.0 =
         same-seat es invoice.listed v.0 w.0 v.1.0 w.1.0 (ap (λ (x : ParsedValue). x.term) (sym v.1.1.parsed) ∙ (seat.term
-            ∙ ap (λ (x : ParsedValue). x.term) w.1.1.parsed))
+        ∙ ap (λ (x : ParsedValue). x.term) w.1.1.parsed))
         (sym v.1.1.context ∙ (seat.context ∙ w.1.1.context)) in
         v.1.1.parsed ∙ (ap (λ (e : Entry). record { term = e.term; value = Some e.value }) one ∙ sym w.1.1.parsed)
 

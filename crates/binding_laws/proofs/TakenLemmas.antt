@@ -61,8 +61,12 @@ added-says row h = go (adds_term row.content) refl h
         let b = both-true (list_all is_unguarded row.path) _ a.1 in
         let c = both-true (is_once row.repeats) _ b.1 in
         let d = both-true (is_always row.written) _ c.1 in
-        record { term = term; always = always-is row.written d.0; type = (both-true (is_unjudged row.check) (is_added_type (data_type_of_form row.form))
-            d.1).1 }
+        record {
+          term = term;
+          always = always-is row.written d.0;
+          type = (both-true (is_unjudged row.check) (is_added_type (data_type_of_form row.form))
+              d.1).1;
+        }
 
     go : (b : Bool) → adds_term row.content ≡ b → choose b (λ _. is_root_or_line row.outer row.inner && is_unmarked row) (λ _. false) ≡ true → SaysAdded row
     go true e k = marked e (both-true (is_root_or_line row.outer row.inner) (is_unmarked row) k).1
@@ -143,7 +147,7 @@ pub taken-is : (row : Row) (es : List Entry) (term : Term) (c : Context) (v : Va
     → of_form (form_for row.form term) v ≡ Some v
 taken-is row es term c v typed is some =
     go (has_slots row c) (data_type_of_form (form_for row.form term)) ((λ i. is_some (passed (sym typed i) (has_slots row c) (form_for row.form term) (sym is
-        i)))
+    i)))
     ∙ some)
   where
     by-type : (b : Bool) → is_some (elim b [ true ↦ Some v | false ↦ None ]) ≡ true → ◌≡◌ {A = Option Value} (elim b [ true ↦ Some v | false ↦ None ]) (Some v)

@@ -113,7 +113,7 @@ module _ (plan : Plan) (rows : List Row) (es : List Entry) (keeps : entries_fail
       let w = both-true ubl ((is_bt 13 0 e.term && (bytes_eq placeholder.text (codes "NA") && same_term placeholder.beside (bt 14))) &&
       stands_there e.term None None) h in
       let v = both-true (is_bt 13 0 e.term && (bytes_eq placeholder.text (codes "NA") && same_term placeholder.beside (bt 14))) (stands_there e.term None
-          None) w.1 in
+      None) w.1 in
       let u = both-true (is_bt 13 0 e.term) (bytes_eq placeholder.text (codes "NA") && same_term placeholder.beside (bt 14)) v.0 in
       let t = both-true (bytes_eq placeholder.text (codes "NA")) (same_term placeholder.beside (bt 14)) u.1 in
       ap (λ x. x && is_some (value_in es placeholder.beside e.context)) (text-as placeholder t.0)
@@ -139,8 +139,11 @@ module _ (plan : Plan) (rows : List Row) (es : List Entry) (keeps : entries_fail
 
   by-rule : (row : Row) (rule : Written) →
       (elim rule [
-        | (written.OrPlaceholder placeholder) ↦ elim row.content [ (contents.Term term) ↦ is_kept_placeholder ubl term placeholder | (contents.Constant text)
-            ↦ true ]
+        | (written.OrPlaceholder placeholder) ↦ elim row.content [
+          | (contents.Term term) ↦ is_kept_placeholder ubl term placeholder
+          | (contents.Constant text)
+              ↦ true
+        ]
         | _ ↦ true
       ]) ≡ true
       → (elim rule [

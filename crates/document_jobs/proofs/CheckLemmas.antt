@@ -65,7 +65,7 @@ module _ (name : List ℕ) (held : Held) (shelf mid : ShelfView) (err mid_err : 
       let here = refused_here statuses.RulesRefused (rule_line name held first.0) mid out mid_err err' tt line in
       rw refused.0 (goes_on (rules_next next) mid out out err' statuses.RulesRefused
       (subst (λ protocol. Runs protocol (record { shelf = mid; out = out; err = mid_err }) (record { shelf = mid; out = out; err = err' })
-          statuses.RulesRefused)
+      statuses.RulesRefused)
       (sym (ap (by_rules name held next) first.1)) here))
 
   pub said_refused : (status : Status) (err' : SinkView) → IsRulesRefusal name held status mid_err err' → Fails (said_protocol name) status shelf mid err err'

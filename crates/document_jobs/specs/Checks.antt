@@ -179,7 +179,7 @@ reported svrl found = record { status = finding_status found; out = report_text 
 abbrev pub check_protocol : Bool → Option (List ℕ) → List (List ℕ) → List ℕ → Protocol
 check_protocol svrl phase names file =
     chosen_protocol (phase_asked phase) names (λ files. document_protocol file (λ found. ends (reported svrl (all_found (tree_nodes (document_read found))
-        files))))
+    files))))
 
 -- ---- what the code has
 

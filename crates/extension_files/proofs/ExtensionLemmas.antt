@@ -185,7 +185,7 @@ head-parts before ms head h =
     letter_at data_type e =
         option_and_then_some data_type_named (text_at (codes "type") ms) data_type e
         (λ word there is. found-all (λ data_type. bytes_eq (word_of_letter data_type) word) (λ data_type. not (is_base64 data_type)) added_data_types
-            data_type is refl)
+        data_type is refl)
 
     by : (number : ℕ) (place : ExtPlace) → (nat_lt before number ≡ true) × (nat_le number 99 ≡ true) → (o : Option DataType) → data_type_of ms ≡ o
         → option_map (λ data_type. (number, place, data_type)) (data_type_of ms) ≡ Some head → IsFineHead before head

@@ -47,7 +47,7 @@ data_type_of ms = option_and_then data_type_named (text_at (codes "type") ms)
 abbrev pub head_in : ℕ → Members → Option (ℕ × ExtPlace × DataType)
 head_in before ms =
     option_and_then (λ number. option_and_then (λ place. option_map (λ data_type. (number, place, data_type)) (data_type_of ms)) (place_of ms)) (number_of
-        before ms)
+    before ms)
 
 -- the first key that a term doesn't have
 abbrev pub other_key_of : Members → Option (List ℕ)

@@ -212,7 +212,7 @@ module _ (rows : List Row) (row : Row) (joins : Joins rows row) (long : All (λ 
       content-mono (λ t. elim r.written [ (written.OrPlaceholder placeholder) ↦ is_told_placeholder was rows r t placeholder | _ ↦ false ])
       (λ t. elim r.written [ (written.OrPlaceholder placeholder) ↦ is_told_placeholder now all r t placeholder | _ ↦ false ])
       (λ t e. placeholder-mono (is_told_placeholder was rows r t) (is_told_placeholder now all r t) (λ placeholder k. told-stays r t placeholder k) r.written
-          e) r.content h
+      e) r.content h
 
   pub joined-more : unjoined_terms was rows ≡ [] → unjoined_terms now all ≡ []
   joined-more none =

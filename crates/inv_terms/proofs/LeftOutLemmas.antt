@@ -45,4 +45,4 @@ module _ (seats : List Seat) (context : Context) (k : ℕ) (row : TermRow) where
           (not-true once left) in
           let here = has_context row.group context in
           sym (ap (λ t. missing_by here t (lacks_group seats context k row) row) missing ∙ (ap (λ t. missing_by here false t row) violations
-              ∙ none-missing here row))
+          ∙ none-missing here row))

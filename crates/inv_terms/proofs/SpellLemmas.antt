@@ -274,7 +274,7 @@ module _ (scaled : (s : ScaledDecimal) → IsScaled s → read_scaled (scaled_te
       let w = taken values.Identifier (identifier_of text) value r.by_type in
       let u = identifier-back text w.0 r.chars_alone w.1 in
       subst (λ v. value_of data_types.I (spelled v) ≡ Some v) w.2 (reads-to data_types.I w.0 (values.Identifier w.0) u.0 (ap (option_map values.Identifier)
-          u.1))
+      u.1))
   back data_types.C text value r =
       let w = taken values.Code (code_of text) value r.by_type in
       let u = code-back text w.0 r.chars_alone w.1 in

@@ -499,7 +499,7 @@ unlisted_is lists e violation h = go (is_unlisted lists e) refl h
   where
     go : (b : Bool) → is_unlisted lists e ≡ b
         → (if b then option_map (λ place. record { place = place; fault = faults.CodeNotListed e.term }) (place_of e.term e.context) else None)
-            ≡ Some violation →
+        ≡ Some violation →
         is_unlisted lists e ≡ true
     go true k l = k
     go false k l = absurd (let z : None ≡ Some violation = l in cc)

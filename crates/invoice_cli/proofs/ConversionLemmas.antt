@@ -27,23 +27,23 @@ module _
     converts : (steps : ℕ) (files : Files) (file : List ℕ) (sources : Sources) (reading_profile : ReadingProfile) (first other : Syntax) (es : List Entry)
         → IsInvoice es → IsValid es reading_profile.lists
         → IsCarriedBy first reading_profile es → IsCarriedBy other reading_profile es → Holds files file (text_of_invoice first reading_profile es) sources
-            reading_profile
+        reading_profile
         → answer_to steps (convert other sources file) files ≡ done (text_of_invoice other reading_profile es)
     converts steps files file sources reading_profile first other es invoice valid by too held =
         read-goes files sources file reading_profile (exactly es) (converted other) held.profile_is (written_read files file sources reading_profile first es
-            invoice valid by held)
+        invoice valid by held)
         ∙ converted-done other reading_profile (exactly es) files too
 
     pub conversions-return : ((files : Files) (sources : Sources) (reading_profile : ReadingProfile) → IsProfile files sources reading_profile
         → AreGood reading_profile.terms)
         → ((files : Files) (file : List ℕ) (reading_profile : ReadingProfile) (read : Read) → AreGood reading_profile.terms
-            → IsReadAs files file reading_profile read
+        → IsReadAs files file reading_profile read
         → IsInvoice read.entries × IsValid read.entries reading_profile.lists)
         → ((bytes : List ℕ) (reading_profile : ReadingProfile) (read : Read) (syntax : Syntax) → AreGood reading_profile.terms
-            → AreReadAs bytes reading_profile read
+        → AreReadAs bytes reading_profile read
         → IsCarriedBy syntax reading_profile read.entries → IsDocumentText syntax reading_profile read.entries)
         → ((files : Files) (syntax : Syntax) (sources : Sources) (file : List ℕ) → (answer_of (convert_protocol syntax sources file) files).status
-            ≡ statuses.Done
+        ≡ statuses.Done
         → IsConverted files syntax sources file (answer_of (convert_protocol syntax sources file) files))
         → ((held : Option Files) (syntax : Syntax) (sources : Sources) (file : List ℕ) (count : ℕ) (answer : Answer)
         → EndsIn held (convert_protocol syntax sources file) count answer → answer.status ≡ statuses.Done → IsConvertedThere held syntax sources file answer)

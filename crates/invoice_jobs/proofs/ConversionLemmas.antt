@@ -58,8 +58,11 @@ reading_profile-goes : (files : Files) (sources : Sources) (reading_profile : Re
     → IsProfile files sources reading_profile
     → answer_of (profile_protocol sources next) files ≡ answer_of (next reading_profile) files
 reading_profile-goes files sources reading_profile next is =
-    lists-go files sources.codes_file reading_profile.lists (λ lists. extended_protocol sources.extension_file (λ terms. next (record { lists = lists; terms =
-        terms })))
+    lists-go files sources.codes_file reading_profile.lists (λ lists. extended_protocol sources.extension_file (λ terms. next (record {
+      lists = lists;
+      terms =
+          terms;
+    })))
     is.lists_are
     ∙ terms-go files sources.extension_file reading_profile.terms (λ terms. next (record { lists = reading_profile.lists; terms = terms })) is.terms_are
 
@@ -81,7 +84,7 @@ read-goes files sources file reading_profile read next are is =
 
 pub converted-done : (syntax : Syntax) (reading_profile : ReadingProfile) (read : Read) (files : Files) → IsCarriedBy syntax reading_profile read.entries
     → answer_of (converted syntax (record { reading_profile = reading_profile; read = read })) files
-        ≡ done (text_of_invoice syntax reading_profile read.entries)
+    ≡ done (text_of_invoice syntax reading_profile read.entries)
 converted-done syntax reading_profile read files by = ap (λ carried. answer_of (by_carrying (text_of_invoice syntax reading_profile read.entries) carried)
     files) by
 
@@ -136,7 +139,7 @@ module _
     bytes-valid bytes reading_profile read good is =
         let nodes = tree_nodes (document_read is.found) in
         by-root reading_profile.terms nodes reading_profile.lists read (document_type_of nodes) good (found-rises document_limits bytes is.found is.is)
-            is.invoice
+        is.invoice
 
     pub read-valid : (files : Files) (file : List ℕ) (reading_profile : ReadingProfile) (read : Read) → AreGood reading_profile.terms
         → IsReadAs files file reading_profile read
@@ -149,14 +152,14 @@ pub written-read : ((files : Files) (sources : Sources) (reading_profile : Readi
     → AreGood reading_profile.terms)
     → ((terms : List ExtTerm) → AreGood terms → AreOpen (rows_for terms))
     → ((tables : DocumentType → List Row) (syntax : Syntax) (es : List Entry) (lists : Lists) → AreOpen tables → IsInvoice es → IsValid es lists
-        → IsCarriedIn tables
+    → IsCarriedIn tables
     syntax es
     → AreReadBy tables (text_by tables syntax es) lists (exactly es))
     → (files : Files) (file : List ℕ) (sources : Sources) (reading_profile : ReadingProfile) (syntax : Syntax) (es : List Entry) → IsInvoice es
-        → IsValid es reading_profile.lists
+    → IsValid es reading_profile.lists
     → IsCarriedBy syntax reading_profile es
     → Holds files file (text_of_invoice syntax reading_profile es) sources reading_profile → IsReadAs files file reading_profile (exactly es)
 written-read good opened round files file sources reading_profile syntax es invoice valid by held =
     subst (λ bytes. AreReadAs bytes reading_profile (exactly es)) (sym held.same)
     (round (rows_for reading_profile.terms) syntax es reading_profile.lists (opened reading_profile.terms (good files sources reading_profile
-        held.profile_is)) invoice valid by)
+    held.profile_is)) invoice valid by)

@@ -62,11 +62,11 @@ pub text-of : ((bytes : List ℕ) (reading_profile : ReadingProfile) (read : Rea
     read.entries reading_profile.lists)
     → ((terms : List ExtTerm) → AreGood terms → AreOpen (rows_for terms))
     → ((tables : DocumentType → List Row) (syntax : Syntax) (es : List Entry) (lists : Lists) → AreOpen tables → IsInvoice es → IsValid es lists
-        → IsCarriedIn tables
+    → IsCarriedIn tables
     syntax es
     → profile.IsXml document_limits (text_by tables syntax es) (tree_by tables syntax es))
     → ((tables : DocumentType → List Row) (syntax : Syntax) (es : List Entry) (lists : Lists) → AreOpen tables → IsInvoice es → IsValid es lists
-        → IsCarriedIn tables
+    → IsCarriedIn tables
     syntax es
     → AreReadBy tables (text_by tables syntax es) lists (exactly es))
     → (bytes : List ℕ) (reading_profile : ReadingProfile) (read : Read) (syntax : Syntax) → AreGood reading_profile.terms → AreReadAs bytes reading_profile read
@@ -82,7 +82,7 @@ text-of valid opened xml round bytes reading_profile read syntax good is by =
 
 module _
     (texts : (bytes : List ℕ) (reading_profile : ReadingProfile) (read : Read) (syntax : Syntax) → AreGood reading_profile.terms
-        → AreReadAs bytes reading_profile read → IsCarriedBy syntax reading_profile
+    → AreReadAs bytes reading_profile read → IsCarriedBy syntax reading_profile
     read.entries
     → IsDocumentText syntax reading_profile read.entries)
     (no_terms : AreGood [])
@@ -92,14 +92,14 @@ module _
         → AreAccepted held sources.codes_file reading_profile.lists
         → AreAddedOrNone held sources.extension_file reading_profile.terms → AreGood reading_profile.terms
         → EndsIn held (invoice_protocol file reading_profile (λ read. converted syntax (record { reading_profile = reading_profile; read = read }))) n a
-            → a.status ≡ statuses.Done
+        → a.status ≡ statuses.Done
         → IsConvertedThere held syntax sources file a
     by-reading_profile held syntax sources file reading_profile n a accepted added terms_are ended good =
         let next : Read → Protocol = λ read. converted syntax (record { reading_profile = reading_profile; read = read }) in
         let d = document_done held file (λ found. by_invoice file (document_read found) next
         (invoice_by (rows_for reading_profile.terms) (tree_nodes (document_read found)) reading_profile.lists)) n a ended good in
         let i = invoice-done held file d.found next (invoice_by (rows_for reading_profile.terms) (tree_nodes (document_read d.found)) reading_profile.lists)
-            d.count a d.ends_in
+        d.count a d.ends_in
         good in
         let c = carrying-done held (text_of_invoice syntax reading_profile i.read.entries)
         (carrying (target_rows (rows_for reading_profile.terms) syntax i.read.entries) i.read.entries) i.count a i.ends_in good in
@@ -122,13 +122,13 @@ module _
         → a.status ≡ statuses.Done → IsConvertedThere held syntax (record { codes_file = codes_file; extension_file = extension_file }) file a
     by-lists held syntax codes_file None file lists n a accepted ended good =
         by-reading_profile held syntax (record { codes_file = codes_file; extension_file = None }) file (record { lists = lists; terms = [] }) n a accepted
-            refl no_terms
+        refl no_terms
         ended good
     by-lists held syntax codes_file (Some name) file lists n a accepted ended good =
         let t = terms_done held name (λ terms. invoice_protocol file (record { lists = lists; terms = terms })
         (λ read. converted syntax (record { reading_profile = record { lists = lists; terms = terms }; read = read }))) n a ended good in
         by-reading_profile held syntax (record { codes_file = codes_file; extension_file = Some name }) file (record { lists = lists; terms = t.terms })
-            t.count a
+        t.count a
         accepted t.are
         (terms_good t.are.content t.terms t.are.are t.are.good) t.ends_in good
 

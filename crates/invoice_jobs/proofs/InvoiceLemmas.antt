@@ -98,7 +98,7 @@ module _ (file : List ℕ) (reading_profile : ReadingProfile) (tables : Tables) 
       rw told.1 (behind_document file shelf mid mid out out err mid_err err' statuses.DocumentRefused read_one quiet
       (λ f. by_invoice file (document_read f) next (invoice_by (rows_for reading_profile.terms) (tree_nodes (document_read f)) reading_profile.lists)) doc found
       (subst (λ protocol. Runs protocol (record { shelf = mid; out = out; err = mid_err }) (record { shelf = mid; out = out; err = err' })
-          statuses.DocumentRefused)
+      statuses.DocumentRefused)
       (sym (ap (by_invoice file (document_read found.found) next) (of_found ∙ fails told.0))) refused))
 
 -- ---- behind the files beside it
@@ -120,8 +120,11 @@ module _ (sources : Sources) (file : List ℕ) (reading_profile : ReadingProfile
 pub no_profile : (sources : Sources) (file : List ℕ) (status : Status) (shelf shelf' : ShelfView) (err err' : SinkView)
     → Fails (profile_protocol sources) status shelf shelf' err err'
     → Fails (read_protocol sources file) status shelf shelf' err err'
-no_profile sources file status shelf shelf' err err' fails = λ next out. fails (λ b. invoice_protocol file b (λ r. next (record { reading_profile = b; read =
-    r }))) out
+no_profile sources file status shelf shelf' err err' fails = λ next out. fails (λ b. invoice_protocol file b (λ r. next (record {
+  reading_profile = b;
+  read =
+      r;
+}))) out
 
 -- ---- the invoice in a syntax
 

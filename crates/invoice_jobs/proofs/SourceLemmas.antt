@@ -60,7 +60,7 @@ each_formed tables good table =
     let first = both_good (judged_in document_type.Invoice (tables document_type.Invoice))
     (or_later (judged_in document_type.CreditNote (tables document_type.CreditNote)) (judged_in document_type.Cii (tables document_type.Cii))) good in
     let others = both_good (judged_in document_type.CreditNote (tables document_type.CreditNote)) (judged_in document_type.Cii (tables document_type.Cii))
-        first.1 in
+    first.1 in
     each table first.0 others.0 others.1
   where
     each : (w : DocumentType) → judged_in document_type.Invoice (tables document_type.Invoice) ≡ Ok tt
@@ -78,7 +78,7 @@ none_bad tables formed =
     (or_later (judged_in document_type.CreditNote (tables document_type.CreditNote)) (judged_in document_type.Cii (tables document_type.Cii))))
     (formed document_type.Invoice)
     ∙ (ap (λ found. or_later (as_bad_row document_type.CreditNote (tables document_type.CreditNote) found) (judged_in document_type.Cii (tables
-        document_type.Cii))) (formed document_type.CreditNote)
+    document_type.Cii))) (formed document_type.CreditNote)
     ∙ ap (as_bad_row document_type.Cii (tables document_type.Cii)) (formed document_type.Cii))
 
 -- The status of a fault of tables, whose line was told, is that of the bad row.

@@ -55,8 +55,11 @@ pub record Given : Type 0 where
 
 -- the invoice of a document by what the files beside it give, and what follows by it
 abbrev pub read_protocol : Sources → List ℕ → (Given → Protocol) → Protocol
-read_protocol sources file next = profile_protocol sources (λ reading_profile. invoice_protocol file reading_profile (λ read. next (record { reading_profile =
-    reading_profile; read = read })))
+read_protocol sources file next = profile_protocol sources (λ reading_profile. invoice_protocol file reading_profile (λ read. next (record {
+  reading_profile =
+      reading_profile;
+  read = read;
+})))
 
 -- the terms of an invoice, in listing order, and how many elements were passed over
 abbrev pub listing_in : AnswerFormat → List Entry → ℕ → List ℕ

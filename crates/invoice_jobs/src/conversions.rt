@@ -59,7 +59,7 @@ fn no_terms_are_good()
 pub fn carried_texts_are_read_exactly()
     ensures { (files : Files) (file : List ℕ) (sources : Sources) (reading_profile : ReadingProfile) (syntax : Syntax) (es : List Entry)
         → IsInvoice es → IsValid es reading_profile.lists → IsCarriedBy syntax reading_profile es
-            → Holds files file (text_of_invoice syntax reading_profile es) sources reading_profile
+        → Holds files file (text_of_invoice syntax reading_profile es) sources reading_profile
         → IsReadAs files file reading_profile (exactly es) }
 {
     accepted_terms_are_good();

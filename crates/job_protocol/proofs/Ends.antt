@@ -50,24 +50,24 @@ module _ (name : List ℕ) (shelf mid shelf' : ShelfView) (out out' err mid_err 
     (quiet : mid_err ≡ err) where
   -- a document that was loaded
   module _ (next : List ℕ → profile.Document → Protocol) (doc : Document) (found : IsLoaded document_limits (option_map (bytes_under name) shelf.held) doc)
-      where
-    behind_it : Behind shelf.held (told_protocol name next) (next found.content found.found)
-    behind_it = behind_a_load shelf.held document_limits name (λ fault. refusal statuses.DocumentRefused (document_line name fault)) next
-        found.content found.found (λ files is. found.whole (bytes_under name files) (ap (option_map (bytes_under name)) is)) found.is
+    where
+      behind_it : Behind shelf.held (told_protocol name next) (next found.content found.found)
+      behind_it = behind_a_load shelf.held document_limits name (λ fault. refusal statuses.DocumentRefused (document_line name fault)) next
+          found.content found.found (λ files is. found.whole (bytes_under name files) (ap (option_map (bytes_under name)) is)) found.is
 
-    -- what follows behind it, by the bytes of its file too
-    pub behind_told : Runs (next found.content found.found) (record { shelf = mid; out = out; err = mid_err })
-        (record { shelf = shelf'; out = out'; err = err' }) status
-        → Runs (told_protocol name next) (record { shelf = shelf; out = out; err = err }) (record { shelf = shelf'; out = out'; err = err' }) status
-    behind_told further =
-        run_behind (told_protocol name next) (next found.content found.found) shelf mid shelf' out out' err mid_err err' status behind_it read quiet further
+      -- what follows behind it, by the bytes of its file too
+      pub behind_told : Runs (next found.content found.found) (record { shelf = mid; out = out; err = mid_err })
+          (record { shelf = shelf'; out = out'; err = err' }) status
+          → Runs (told_protocol name next) (record { shelf = shelf; out = out; err = err }) (record { shelf = shelf'; out = out'; err = err' }) status
+      behind_told further =
+          run_behind (told_protocol name next) (next found.content found.found) shelf mid shelf' out out' err mid_err err' status behind_it read quiet further
 
-    -- the same of a job that wants memory while it writes
-    pub pieces_behind_told : RunsInPieces (next found.content found.found) (record { shelf = mid; out = out; err = mid_err })
-        (record { shelf = shelf'; out = out'; err = err' }) status
-        → RunsInPieces (told_protocol name next) (record { shelf = shelf; out = out; err = err }) (record { shelf = shelf'; out = out'; err = err' }) status
-    pieces_behind_told further =
-        pieces_behind (told_protocol name next) (next found.content found.found) shelf mid shelf' out out' err mid_err err' status behind_it read quiet further
+      -- the same of a job that wants memory while it writes
+      pub pieces_behind_told : RunsInPieces (next found.content found.found) (record { shelf = mid; out = out; err = mid_err })
+          (record { shelf = shelf'; out = out'; err = err' }) status
+          → RunsInPieces (told_protocol name next) (record { shelf = shelf; out = out; err = err }) (record { shelf = shelf'; out = out'; err = err' }) status
+      pieces_behind_told further =
+          pieces_behind (told_protocol name next) (next found.content found.found) shelf mid shelf' out out' err mid_err err' status behind_it read quiet further
 
   -- what follows behind a document
   pub behind_document : (next : profile.Document → Protocol) (doc : Document) (found : IsLoaded document_limits (option_map (bytes_under name) shelf.held) doc)

@@ -250,7 +250,7 @@ module _ (name : List ℕ) (shelf shelf' : ShelfView) (out err mid_err err' : Si
   -- the lists of a file are refused behind the reading of it
   refused_lists : (next : Lists → Protocol) (fault : ListFault) → file_lists bytes ≡ Err fault → TakesOrFails (list_line name fault) mid_err err'
       → Runs (lists_protocol name next) (record { shelf = shelf; out = out; err = err }) (record { shelf = shelf'; out = out; err = err' })
-          statuses.RulesRefused
+      statuses.RulesRefused
   refused_lists next fault fails takes =
       let refused = refused_here statuses.RulesRefused (list_line name fault) shelf' out mid_err err' tt takes in
       let next_is : by_lists name next (file_lists bytes) ≡ ends (refusal statuses.RulesRefused (list_line name fault)) = ap (by_lists name next) fails in

@@ -171,7 +171,7 @@ module _ (first : Readings) (fault : LoadFault) (shelf shelf' : ShelfView) (out 
 -- A rule file that can't be had with its parts ends the job, whatever was to follow.
 pub library_ends : (name : List ℕ) (fault : LoadFault) (status : Status) (shelf shelf' : ShelfView) (err err' : SinkView)
     → faults.Fails (library name) fault shelf shelf' → IsLoadRefusal fault.file fault status err err'
-        → Fails (library_protocol name) status shelf shelf' err err'
+    → Fails (library_protocol name) status shelf shelf' err err'
 unfolding library_protocol
 library_ends name fault status shelf shelf' err err' (given wrong node tells reaches) said = λ next out.
     let refused = refused_as fault wrong status err err' tells said in

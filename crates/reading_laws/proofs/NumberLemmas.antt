@@ -88,8 +88,10 @@ module _ (nodes : List Node) (picks : List Pick) where
   told-there p term e q h =
       any-map (λ s. record { placed = p; parsed = s }) (λ t. q (context_of t.placed)) (parsed_by nodes p)
       ∙ (ap (λ b. list_any (λ (s : ParsedValue). b) (parsed_by nodes p)) h
-      ∙ (ap (λ (o : Option Term). list_any (λ (s : ParsedValue). true) (elim o [ None ↦ [] | Some t ↦ parsed p.pick.row.form t (string_at nodes p.pick.node)
-          ])) e
+      ∙ (ap (λ (o : Option Term). list_any (λ (s : ParsedValue). true) (elim o [
+        | None ↦ []
+        | Some t ↦ parsed p.pick.row.form t (string_at nodes p.pick.node)
+      ])) e
       ∙ parsed-full p.pick.row.form term (string_at nodes p.pick.node)))
 
   all-tell : (R : Row → Type 0) → AllByRecursion (IsPickOf R) picks → AllByRecursion Tells picks

@@ -81,8 +81,11 @@ of-told P Q nodes h ps all = each-flat P Q (told_by nodes)
     (λ p k. each-map P (λ s. record { placed = p; parsed = s }) (parsed_by nodes p) (go p k (term_in p.pick.row.content) refl)) ps all
   where
     go : (p : Placed) → Q p → (o : Option Term) → term_in p.pick.row.content ≡ o
-        → AllByRecursion (λ s. P (record { placed = p; parsed = s })) (elim o [ None ↦ [] | Some term ↦ parsed p.pick.row.form term (string_at nodes
-            p.pick.node) ])
+        → AllByRecursion (λ s. P (record { placed = p; parsed = s })) (elim o [
+          | None ↦ []
+          | Some term ↦ parsed p.pick.row.form term (string_at nodes
+              p.pick.node)
+        ])
     go p k None e = tt
     go p k (Some term) e = h p term k e
 

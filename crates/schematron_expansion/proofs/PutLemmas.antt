@@ -86,7 +86,7 @@ alike_first : (told other : List ℕ) (inclusions : List Inclusion) → Alike to
 alike_first told other [] h = refl
 alike_first told other (inclusion ∷ inclusions) h = (λ i. put_if inclusion (alike_first told other inclusions h i)
     (alike_first (inclusion.entry.number ∷ told) (inclusion.entry.number ∷ other) inclusions (alike_more inclusion.entry.number told other h) i) (h
-        inclusion.entry.number i))
+    inclusion.entry.number i))
 
 or_true : (b c : Bool) → c ≡ true → (b || c) ≡ true
 or_true true c h = refl

@@ -115,8 +115,11 @@ again_put is_so ps qs es all before inclusion t steady h = by (is_let inclusion.
     by : (test : Bool)
         → Pairs (Repeats is_so) (elim test as
         (λ _. List Written) [ true ↦ written_let inclusion.stand ps before inclusion.entry | false ↦ written_assertion es ps all inclusion ])
-        (elim test as (λ _. List Written) [ true ↦ written_let t qs before inclusion.entry | false ↦ written_assertion es qs all (put_at_stand t
-            inclusion.entry) ])
+        (elim test as (λ _. List Written) [
+          | true ↦ written_let t qs before inclusion.entry
+          | false ↦ written_assertion es qs all (put_at_stand t
+              inclusion.entry)
+        ])
     by true = again_written is_so ps qs a.Value false inclusion.stand t before inclusion.entry refl h
     by false = pairs-append (Repeats is_so) (written a.Test false inclusion.stand ps all inclusion.entry) _ (written a.Test false t qs all inclusion.entry) _
         (again_written is_so ps qs a.Test false inclusion.stand t all inclusion.entry refl h)

@@ -147,8 +147,11 @@ puts_next es params all before inclusion inclusions = by (is_let inclusion.entry
           | false ↦ written_assertion es params all inclusion ++
               written_puts es params all before inclusions
         ])
-        ≡ (elim test as (λ _. List Written) [ true ↦ written_let inclusion.stand params before inclusion.entry | false ↦ written_assertion es params all
-            inclusion ])
+        ≡ (elim test as (λ _. List Written) [
+          | true ↦ written_let inclusion.stand params before inclusion.entry
+          | false ↦ written_assertion es params all
+              inclusion
+        ])
         ++ written_puts es params all (elim test as (λ _. Declared) [ true ↦ with_let params before inclusion.entry | false ↦ before ]) inclusions
     by true = refl
     by false = refl
@@ -223,11 +226,14 @@ first_lets_behind es is_put params told scope (inclusion ∷ inclusions) settled
     by : (test : Bool) → is_told inclusion.entry.number told ≡ test
         → with_lets params scope (lets_among (first_puts_behind told inclusions)) ≡ with_lets params scope (lets_among inclusions)
         → with_lets params (with_entry params scope inclusion.entry) (lets_among (first_puts_behind (inclusion.entry.number ∷ told) inclusions))
-            ≡ with_lets params
+        ≡ with_lets params
         (with_entry params scope inclusion.entry) (lets_among inclusions)
         → with_lets params scope
-        (lets_among (elim test as (λ _. List Inclusion) [ true ↦ first_puts_behind told inclusions | false ↦ inclusion ∷ first_puts_behind
-            (inclusion.entry.number ∷ told) inclusions ]))
+        (lets_among (elim test as (λ _. List Inclusion) [
+          | true ↦ first_puts_behind told inclusions
+          | false ↦ inclusion ∷ first_puts_behind
+              (inclusion.entry.number ∷ told) inclusions
+        ]))
         ≡ with_lets params scope (lets_among (inclusion ∷ inclusions))
     by true t same new = same ∙ (ap (λ (s : Declared). with_lets params s (lets_among inclusions))
         (sym (settled_scope es params told scope inclusion.entry known.0.0 settled t)) ∙ sym (lets_next params scope inclusion inclusions))
@@ -265,19 +271,22 @@ first_each_behind P es is_put params all told before (inclusion ∷ inclusions) 
         → (Each P (written_puts es params all (with_entry params before inclusion.entry) inclusions) →
         Each P (written_puts es params all (with_entry params before inclusion.entry) (first_puts_behind (inclusion.entry.number ∷ told) inclusions)))
         → Each P (written_puts es params all before
-        (elim test as (λ _. List Inclusion) [ true ↦ first_puts_behind told inclusions | false ↦ inclusion ∷ first_puts_behind (inclusion.entry.number ∷ told)
-            inclusions ]))
+        (elim test as (λ _. List Inclusion) [
+          | true ↦ first_puts_behind told inclusions
+          | false ↦ inclusion ∷ first_puts_behind (inclusion.entry.number ∷ told)
+              inclusions
+        ]))
     by true t same new = same (with_entry params before inclusion.entry) (settled_scope es params told before inclusion.entry known.0.0 settled t) rest
     by false t same new = subst (Each P) (sym (puts_next es params all before inclusion (first_puts_behind (inclusion.entry.number ∷ told) inclusions)))
         (each-append P (written_put es params all before inclusion)
         (written_puts es params all (with_entry params before inclusion.entry) (first_puts_behind (inclusion.entry.number ∷ told) inclusions))
         (each-front P (written_put es params all before inclusion) (written_puts es params all (with_entry params before inclusion.entry) inclusions) both)
-            (new rest))
+        (new rest))
 
 pub first_each : (P : Written → Type 0) (es : List Entry) (is_put : Entry → Bool) (params : List Parameter) (all before : Declared) (inclusions : List
     Inclusion)
     → Each (Known es is_put) inclusions → Each P (written_puts es params all before inclusions)
-        → Each P (written_puts es params all before (first_puts inclusions))
+    → Each P (written_puts es params all before (first_puts inclusions))
 first_each P es is_put params all before inclusions known h = first_each_behind P es is_put params all [] before inclusions (λ n e t g l. absurd (false≢true
     t)) known h
 
@@ -326,14 +335,14 @@ first_copies_behind : Keeps → (es : List Entry) (is_put : Entry → Bool) (par
     (best : Option Found) (last : Option ℕ) (before : Declared) (inclusions : List Inclusion)
     → Settled es params told before → Covered es is_put params all told low best last before → Climbs low inclusions → Each (Known es is_put) inclusions
     → soonest best last (written_puts es params all before (first_puts_behind told inclusions))
-        ≡ soonest best last (written_puts es params all before inclusions)
+    ≡ soonest best last (written_puts es params all before inclusions)
 first_copies_behind keeps es is_put params all told low best last before [] settled cover climbs known = refl
 first_copies_behind keeps es is_put params all told low best last before (inclusion ∷ inclusions) settled cover climbs known = by (is_told
     inclusion.entry.number told) refl
     (first_copies_behind keeps es is_put params all told (stand_of inclusion) best last before inclusions settled
     (covered_from es is_put params all told low (stand_of inclusion) best last before climbs.0 cover) climbs.1 known.1)
     (first_copies_behind keeps es is_put params all (inclusion.entry.number ∷ told) (stand_of inclusion) (soonest best last (written_put es params all before
-        inclusion)) last
+    inclusion)) last
     (with_entry params before inclusion.entry) inclusions
     (settled_more es params told before inclusion.entry known.0.0 settled)
     (covered_more keeps es is_put params all told low best last before inclusion known.0 climbs.0 cover) climbs.1 known.1)
@@ -345,14 +354,17 @@ first_copies_behind keeps es is_put params all told low best last before (inclus
 
     by : (test : Bool) → is_told inclusion.entry.number told ≡ test
         → soonest best last (written_puts es params all before (first_puts_behind told inclusions))
-            ≡ soonest best last (written_puts es params all before inclusions)
+        ≡ soonest best last (written_puts es params all before inclusions)
         → soonest (soonest best last (written_put es params all before inclusion)) last
         (written_puts es params all (with_entry params before inclusion.entry) (first_puts_behind (inclusion.entry.number ∷ told) inclusions))
         ≡ soonest (soonest best last (written_put es params all before inclusion)) last (written_puts es params all (with_entry params before inclusion.entry)
-            inclusions)
+        inclusions)
         → soonest best last (written_puts es params all before
-        (elim test as (λ _. List Inclusion) [ true ↦ first_puts_behind told inclusions | false ↦ inclusion ∷ first_puts_behind (inclusion.entry.number ∷ told)
-            inclusions ]))
+        (elim test as (λ _. List Inclusion) [
+          | true ↦ first_puts_behind told inclusions
+          | false ↦ inclusion ∷ first_puts_behind (inclusion.entry.number ∷ told)
+              inclusions
+        ]))
         ≡ soonest best last (written_puts es params all before (inclusion ∷ inclusions))
     by true t same new = same ∙ (sym (ap (λ (x : Option Found). soonest x last (written_puts es params all before inclusions))
         (covers_keeps best (least (up_to last (written_put es params all before inclusion)))
@@ -366,7 +378,7 @@ first_copies_behind keeps es is_put params all told low best last before (inclus
 pub first_copies : Keeps → (es : List Entry) (is_put : Entry → Bool) (params : List Parameter) (all : Declared) (best : Option Found) (last : Option ℕ)
     (before : Declared) (inclusions : List Inclusion)
     → Climbs 0 inclusions → Each (Known es is_put) inclusions → soonest best last (written_puts es params all before (first_puts inclusions))
-        ≡ soonest best last
+    ≡ soonest best last
     (written_puts es params all before inclusions)
 first_copies keeps es is_put params all best last before inclusions climbs known =
     first_copies_behind keeps es is_put params all [] 0 best last before inclusions (λ n e t g l. absurd (false≢true t))

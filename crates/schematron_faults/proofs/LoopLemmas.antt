@@ -54,7 +54,7 @@ parts_turn init s t whole stand params all e left rest l g h =
 pub puts_turn : (init s t : Search) (whole : List Written) (es : List Entry) (params : List Parameter) (all before new : Declared) (inclusion : Inclusion)
     (left rest : List Inclusion) → left ≡ inclusion ∷ rest → new ≡ with_entry params before inclusion.entry
     → Goes s t (written_put es params all before inclusion) → ((u : Search) → Goes s u (written_puts es params all before left) → Goes init u whole)
-        → (u : Search) →
+    → (u : Search) →
     Goes t u (written_puts es params all new rest) → Goes init u whole
 puts_turn init s t whole es params all before new inclusion left rest l n g h =
     goes_turn init s t whole (written_puts es params all before left) (written_put es params all before inclusion) (written_puts es params all new rest)

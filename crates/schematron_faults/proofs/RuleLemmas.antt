@@ -29,7 +29,7 @@ pub goes_copies : Keeps → (file : File) (stand : Option ℕ) (params : List Pa
     → Goes s t (written_puts file.entries params (with_lets params outer (lets_among (first_puts (inclusions file stand rule.number)))) outer
     (first_puts (inclusions file stand rule.number)))
     → Goes s t (written_puts file.entries params (with_lets params outer (lets_among (inclusions file stand rule.number))) outer (inclusions file stand
-        rule.number))
+    rule.number))
 goes_copies keeps file stand params outer rule s t is own g =
     let found : List Inclusion = inclusions file stand rule.number in
     let known : Each (Known file.entries (is_put file.rules stand)) found = puts_known file stand rule is own in

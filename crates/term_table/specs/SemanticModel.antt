@@ -26,8 +26,14 @@ abbrev pub Line : Type 0
 Line = Group → TermRow
 
 abbrev pub line : ℕ → ℕ → DataType → Mark → Option CodeList → Line
-line number part data_type mark list group = record { term = record { number = number; part = part }; group = group; data_type = data_type; mark = mark; list
-    = list }
+line number part data_type mark list group = record {
+  term = record { number = number; part = part };
+  group = group;
+  data_type = data_type;
+  mark = mark;
+  list
+      = list;
+}
 
 -- a term by its number, mandatory or optional in its group
 abbrev pub needs : ℕ → DataType → Line
@@ -108,7 +114,7 @@ semantic_model =
     -- BG-10
     ∷ section groups.Payee groups.Root occurs.AtMostOnce
     (needs 59 data_types.T ∷ may 60 data_types.I ∷ part_code 60 marks.Optional lists.Scheme ∷ may 61 data_types.I ∷ part_code 61 marks.Optional lists.Scheme ∷
-        [])
+    [])
     -- BG-11, with BG-12 in it
     ∷ section groups.TaxRepresentative groups.Root occurs.AtMostOnce (needs 62 data_types.T ∷ needs 63 data_types.I ∷ [])
     ∷ section groups.TaxRepresentativeAddress groups.TaxRepresentative occurs.Once (address 64 65 164 66 67 68 69)
@@ -127,11 +133,11 @@ semantic_model =
     ∷ section groups.DocumentCharge groups.Root occurs.AnyNumber (document_sum_off 99 100 101 102 103 104 105 lists.Charge)
     ∷ section groups.DocumentTotals groups.Root occurs.Once
     (needs 106 data_types.A ∷ may 107 data_types.A ∷ may 108 data_types.A ∷ needs 109 data_types.A ∷ may 110 data_types.A ∷ may 111 data_types.A ∷ needs 112
-        data_types.A
+    data_types.A
     ∷ may 113 data_types.A ∷ may 114 data_types.A ∷ needs 115 data_types.A ∷ [])
     ∷ section groups.VatBreakdown groups.Root occurs.AtLeastOnce
     (needs 116 data_types.A ∷ needs 117 data_types.A ∷ needs_code 118 lists.Category ∷ may 119 data_types.P ∷ may 120 data_types.T ∷ may_code 121
-        lists.Exemption ∷ [])
+    lists.Exemption ∷ [])
     ∷ section groups.SupportingDocument groups.Root occurs.AnyNumber
     (needs 122 data_types.I ∷ may 123 data_types.T ∷ may 124 data_types.T ∷ may 125 data_types.B ∷ part_code 125 marks.After lists.Mime
     ∷ line 125 2 data_types.T marks.After None ∷ [])

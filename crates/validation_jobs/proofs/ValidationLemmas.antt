@@ -99,7 +99,7 @@ module _ (svrl : Bool) (file : List ℕ) (reading_profile : ReadingProfile) (con
   pub document_faulted : (reading_report : ReadingReport) (out out' err err' : SinkView) (status : Status)
       → faults_by (rows_for reading_profile.terms) (tree_nodes doc) reading_profile.lists ≡ Ok reading_report
       → Runs (judged_next svrl content doc reading_report) (record { shelf = shelf; out = out; err = err }) (record { shelf = shelf; out = out'; err = err' })
-          status
+      status
       → Runs (document_next svrl file reading_profile content doc) (record { shelf = shelf; out = out; err = err })
       (record { shelf = shelf; out = out'; err = err' }) status
   document_faulted reading_report out out' err err' status is further =
@@ -116,7 +116,7 @@ module _ (svrl : Bool) (file : List ℕ) (reading_profile : ReadingProfile) (con
   document_refused fault out err err' status fails (inr told) =
       rw told.1
       (subst (λ protocol. Runs protocol (record { shelf = shelf; out = out; err = err }) (record { shelf = shelf; out = out; err = err' })
-          statuses.DocumentRefused)
+      statuses.DocumentRefused)
       (sym (ap follows (fails told.0)))
       (refused_here statuses.DocumentRefused (invoice_line file doc fault) shelf out err err' tt told.2))
 
@@ -127,7 +127,7 @@ module _ (svrl : Bool) (content : List ℕ) (doc : Document) (shelf : ShelfView)
       → Runs (ends (reported svrl (validated content doc reading_report ready))) (record { shelf = shelf; out = out; err = err })
       (record { shelf = shelf; out = out'; err = err' }) status
       → Runs (judged_next svrl content doc reading_report) (record { shelf = shelf; out = out; err = err }) (record { shelf = shelf; out = out'; err = err' })
-          status
+      status
   document_judged reading_report ready out out' err err' status is further =
       subst (λ protocol. Runs protocol (record { shelf = shelf; out = out; err = err }) (record { shelf = shelf; out = out'; err = err' }) status)
       (sym (ap (by_rules (λ r. ends (reported svrl (validated content doc reading_report r)))) is)) further

@@ -208,7 +208,7 @@ fn report<L: Ledger, O: Sink>(
     requires ready { IsReady ready.now }
     ensures { (content : List ℕ) → AreLinesOf placed.now.lines content
         → (shelf : ShelfView) (err : SinkView) → Runs (ends (reported svrl (validated content placed.now.doc (reading_report_of reading_report.now)
-            (seen_ready ready.now))))
+        (seen_ready ready.now))))
         (record { shelf = shelf; out = O.view out.old; err = err })
         (record { shelf = shelf; out = O.view out.new; err = err }) result }
 {

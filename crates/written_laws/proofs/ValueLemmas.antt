@@ -145,8 +145,11 @@ type-chars : (b : Bool) (value : Value) → IsChars (spelled value) → ValueCha
 type-chars true value h = h
 type-chars false value h = tt
 
-data_type-chars : (o : Option DataType) (value : Value) → IsChars (spelled value) → ValueChars (elim o [ None ↦ Some value | Some data_type ↦ of_type
-    data_type value ])
+data_type-chars : (o : Option DataType) (value : Value) → IsChars (spelled value) → ValueChars (elim o [
+  | None ↦ Some value
+  | Some data_type ↦ of_type
+      data_type value
+])
 data_type-chars None value h = h
 data_type-chars (Some data_type) value h = type-chars (is_of_type data_type value) value h
 

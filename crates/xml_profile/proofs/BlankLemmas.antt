@@ -99,7 +99,7 @@ pub blank-passed : (e : Bool) (limits : Limits) (old : Cursor) (bytes within : L
     length within ≤ limits.bytes - old.place
     → 0 < n → n ≤ length within → AreBlank n within → open_elements ≡ behind_aside old.open_elements → rest ≡ drop n bytes
     → (length rest < length bytes) × GoesOn e limits old (record { open_elements = open_elements; place = old.place + n; search = fresh }) bytes rest taken
-        taken
+    taken
 blank-passed e limits old bytes within taken n open_elements rest position outside sound parts room some fits blank passed behind =
     let lengths : length bytes ≡ length within + length (drop (length within) bytes) = ap length parts ∙ length-append within (drop (length within) bytes) in
     let len : length rest ≡ length bytes - n = ap length behind ∙ length-drop n bytes in

@@ -131,7 +131,7 @@ module _ (limits : Limits) (cursor : Cursor) (rest : List ℕ) (before after : L
   rest-is at same =
       let s = stands-going at None cursor rest same in
       ap (λ x. resume true limits x []) s.is ∙ ap (read true limits cursor.open_elements cursor.place 0) (append-nil s.bytes
-          ∙ kept-rest cursor rest s.bytes s.kept)
+      ∙ kept-rest cursor rest s.bytes s.kept)
 
   takes-rest : (at : Standing) → kept_of at ≡ kept_going None cursor rest → (events : List Event) →
       (read true limits cursor.open_elements cursor.place 0 rest).events ≡ events → TakesAll events before after

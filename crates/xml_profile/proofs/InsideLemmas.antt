@@ -116,7 +116,7 @@ close-beyond e limits old bytes before after (Some kind) n is room told =
 pub close-wrong : (e : Bool) (limits : Limits) (old : Cursor) (bytes : List ℕ) (before after : List Event → Type 0) (found : Option XmlKind) (kind : XmlKind)
     (n : ℕ) (fault : XmlFault) → found ≡ Some kind
     → beginning old.open_elements.position e bytes ≡ begins_by (ends_with found n) → nat_le (old.place + n) limits.bytes ≡ true → fault
-        ≡ fault_at kind old.place →
+    ≡ fault_at kind old.place →
     TakesAll [] before after → Breaks e limits old bytes before after fault
 close-wrong e limits old bytes before after found kind n fault same is room shown told =
     is-bad e limits old bytes before after kind n fault (is ∙ ap (λ f. begins_by (ends_with f n)) same)
@@ -140,4 +140,4 @@ pub passed-aside : (e : Bool) (limits : Limits) (old new : Cursor) (bytes behind
 passed-aside e limits old new bytes behind before after open_elements n is room advances rest same =
     let within : nat_le (old.place + n) limits.bytes ≡ true = grind (arith, nat_tests) in
     (advanced e limits bytes before after old new _ behind same (goes-on e limits old bytes before after an_aside n open_elements behind is within advances
-        rest)).1
+    rest)).1

@@ -82,7 +82,7 @@ kept-inside cursor held rest bytes e = by (open_aside cursor.open_elements.posit
   where
     by : (x : Option OpenAside) → open_aside cursor.open_elements.position bytes ≡ x →
         kept_by cursor.open_elements cursor.place bytes x ≡ inside cursor.open_elements cursor.place held.came held.aside
-            → IsInside cursor.open_elements.position held bytes
+        → IsInside cursor.open_elements.position held bytes
     by None f g = absurd (cc g)
     by (Some aside) f g =
         let same : aside ≡ held.aside = cc g in

@@ -156,7 +156,7 @@ module _ (e : Bool) (limits : Limits) (old : Cursor) (bytes : List ℕ) (before 
       → list_all is_plain characters ≡ true → 0 < length text → bytes ≡ text ++ rest → old.place + length text ≤ limits.bytes
       → AdvancesText limits old.open_elements open_elements characters old.place before after
       → (length rest < length bytes) × GoesOn e limits old (record { open_elements = open_elements; place = old.place + length text; search = fresh }) bytes
-          rest before after
+      rest before after
   text-taken open_elements rest text [] position inside spells plain some parts within advances =
       let none : 0 ≡ length text = ap length spells in absurd (omega arith)
   text-taken open_elements rest text (c ∷ characters) position inside spells plain some parts within advances =
@@ -170,7 +170,7 @@ module _ (e : Bool) (limits : Limits) (old : Cursor) (bytes : List ℕ) (before 
           parts = parts;
           is = ap (read e limits old.open_elements old.place 0) (parts ∙ ap (λ t. t ++ rest) (sym spells))
               ∙ read-run e limits old.open_elements (record { position = position; inside = inside; room = advances.admitted }) c characters old.place rest
-                  plain fits
+              plain fits
               ∙ ap (λ s. telling (run_events whole old.place) (read e limits s (old.place + length (encode_utf8_all whole)) 0 rest)) (sym advances.behind)
               ∙ ap (λ t. telling (run_events whole old.place) (read e limits open_elements (old.place + length t) 0 rest)) spells;
           told = λ events taken. subst after (sym (run-told events c characters old.place)) (advances.told events taken);
@@ -183,7 +183,7 @@ module _ (e : Bool) (limits : Limits) (old : Cursor) (bytes : List ℕ) (before 
       → IsRun limits old.place bytes text
       → AdvancesText limits old.open_elements open_elements (chars text) old.place before after → rest ≡ drop (length text) bytes
       → (length rest < length bytes) × GoesOn e limits old (record { open_elements = open_elements; place = old.place + length text; search = fresh }) bytes
-          rest before after
+      rest before after
   run-taken open_elements rest text position inside run advances behind =
       text-taken open_elements rest text (chars text) position inside (encode-chars text run.utf8) run.plain run.some
       (run.parts ∙ ap (λ r. text ++ r) (sym behind)) run.within advances
@@ -211,7 +211,7 @@ module _ (e : Bool) (limits : Limits) (old : Cursor) (bytes : List ℕ) (before 
       ∙ plain-begins Farther e c (encode_utf8_all characters ++ rest) refl tests.0 in
       breaks-at e limits old bytes before after (fault_at TooManyNodes old.place)
       (read-refused e limits old.open_elements old.place bytes (a_character c) n TooManyNodes begun room (text-refused limits old.open_elements c inside
-          full)) told
+      full)) told
 
   -- A run of characters was refused.
   pub run-refused : (text : List ℕ) (fault : XmlFault) → old.open_elements.position ≡ Farther → is_outside old.open_elements ≡ false

@@ -81,7 +81,7 @@ module _ (e : Bool) (limits : Limits) (old : Cursor) (bytes : List ℕ) (before 
   pub goes-on : (token : Token) (n : ℕ) (open_elements : State) (rest : List ℕ) → spec.beginning old.open_elements.position e bytes ≡ spec.good token n
       → nat_le (old.place + n) limits.bytes ≡ true → Advances limits old.open_elements open_elements token old.place before after → rest ≡ drop n bytes
       → (length rest < length bytes) × GoesOn e limits old (record { open_elements = open_elements; place = old.place + n; search = fresh }) bytes rest before
-          after
+      after
   goes-on token n open_elements rest is room advances behind =
       let w = token-within old.open_elements e bytes token n is in
       let len : length rest ≡ length bytes - n = ap length behind ∙ length-drop n bytes in (
@@ -169,7 +169,7 @@ read-unfinished e limits s place c a len test is sure room =
 pub is-unfinished : (e : Bool) (limits : Limits) (old : Cursor) (bytes : List ℕ) (before after : List Event → Type 0) (len : ℕ) (search : Searched) →
     0 < length bytes → IsSure len bytes
     → spec.beginning old.open_elements.position e bytes ≡ spec.later → nat_le (old.place + len) limits.bytes ≡ true → IsSearched search bytes
-        → old.place ≤ limits.bytes
+    → old.place ≤ limits.bytes
     → TakesAll [] before after
     → Reaches e limits old (record { open_elements = old.open_elements; place = old.place; search = search }) bytes bytes before after
 is-unfinished e limits old [] before after len search some sure is room searched within told = absurd (omega arith)

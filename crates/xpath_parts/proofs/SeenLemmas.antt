@@ -38,7 +38,7 @@ seen-simple names x = ap (seen names) (sym (w.rolls-Simple x)) ∙ fold-roll-Pla
 
 labelled-operands : (names : List Name) (parts : List (Separator × PlanNode)) →
     map (λ (part : Separator × Exp). (label_of part.0, part.1)) (map (λ (part : Separator × PlanNode). (part.0, seen names part.1)) parts)
-        ≡ operands_of names parts
+    ≡ operands_of names parts
 labelled-operands names [] = refl
 labelled-operands names (part ∷ parts) = ap (λ operands. (label_of part.0, seen names part.1) ∷ operands) (labelled-operands names parts)
 

@@ -51,9 +51,9 @@ operands-same names (part ∷ parts) = λ j. (label_of part.0, part.1.1 j) ∷ o
 
 step-same : (names : List Name) (y : PlanNode-F ((work : PlanNode) × ((known names work).exp ≡ seen names work)))
     → (known_step names (map-PlanNode PlanNode Known (known names) (map-PlanNode ((work : PlanNode) × ((known names work).exp
-        ≡ seen names work)) PlanNode (λ e. e.0) y))).exp
+    ≡ seen names work)) PlanNode (λ e. e.0) y))).exp
     ≡ seen_step names (map-PlanNode PlanNode Exp (seen names) (map-PlanNode ((work : PlanNode) × ((known names work).exp
-        ≡ seen names work)) PlanNode (λ e. e.0) y))
+    ≡ seen names work)) PlanNode (λ e. e.0) y))
 step-same names (PlanNode-F.Simple x) = refl
 step-same names (PlanNode-F.Node kind parts) = ap (made kind) (operands-same names parts)
 
@@ -61,7 +61,7 @@ pub known-exp : (names : List Name) (work : PlanNode) → (known names work).exp
 known-exp names = ind-PlanNode (λ work. (known names work).exp ≡ seen names work) (λ x y is.
     ap (λ (k : Known). k.exp) (fold-roll-PlanNode Known (known_step names) x)
     ∙ (subst (λ z. (known_step names (map-PlanNode PlanNode Known (known names) z)).exp ≡ seen_step names (map-PlanNode PlanNode Exp (seen names) z)) is
-        (step-same names y)
+    (step-same names y)
     ∙ sym (fold-roll-PlanNode Exp (seen_step names) x)))
 
 operands-known : (names : List Name) (parts : List (Separator × PlanNode))

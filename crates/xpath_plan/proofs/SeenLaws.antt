@@ -73,7 +73,7 @@ pub known-exp : (names : List Name) (work : PlanNode) → (known names work).exp
 known-exp names = ind-PlanNode (λ work. (known names work).exp ≡ seen names work) (λ x y is.
     ap (λ (part : Known). part.exp) (fold-roll-PlanNode Known (known_step names) x)
     ∙ (subst (λ z. (known_step names (map-PlanNode PlanNode Known (known names) z)).exp ≡ seen_step names (map-PlanNode PlanNode Exp (seen names) z)) is
-        (step-agrees names y)
+    (step-agrees names y)
     ∙ sym (fold-roll-PlanNode Exp (seen_step names) x)))
 
 -- Tables that grow

@@ -110,182 +110,182 @@ module _ (binder : Binder) (dynamic : DynamicContext) (focus : Focus) (height : 
   ends bound turns out none = ap (after binder out) (to_come-none binder nodes inner (level dynamic focus bound height) (reverse turns) none)
 
   module _ (bound bound' : List Item) (turns turns' : List (List Item)) (part : Separator × PlanNode) (s : IsTurn height parts bound bound' turns turns' part)
-      where
-    abbrev item : Item
-    item = s.item
+    where
+      abbrev item : Item
+      item = s.item
 
-    abbrev k : ℕ
-    k = s.k
+      abbrev k : ℕ
+      k = s.k
 
-    next : advanced (reverse turns) ≡ Some (item, reverse turns')
-    next = s.next
+      next : advanced (reverse turns) ≡ Some (item, reverse turns')
+      next = s.next
 
-    long : length turns' ≡ suc k
-    long = s.long
+      long : length turns' ≡ suc k
+      long = s.long
 
-    room : height + k ≤ length bound
-    room = s.room
+      room : height + k ≤ length bound
+      room = s.room
 
-    bound_is : bound' ≡ take (height + k) bound ++ item ∷ []
-    bound_is = s.bound_is
+      bound_is : bound' ≡ take (height + k) bound ++ item ∷ []
+      bound_is = s.bound_is
 
-    part_is : drop k parts ≡ part ∷ drop (k + 1) parts
-    part_is = s.part_is
+      part_is : drop k parts ≡ part ∷ drop (k + 1) parts
+      part_is = s.part_is
 
-    abbrev before : ℕ → Context
-    before = level dynamic focus bound height
+      abbrev before : ℕ → Context
+      before = level dynamic focus bound height
 
-    abbrev now : ℕ → Context
-    now = level dynamic focus bound' height
+      abbrev now : ℕ → Context
+      now = level dynamic focus bound' height
 
-    abbrev rest : List (List Item)
-    rest = reverse turns'
+      abbrev rest : List (List Item)
+      rest = reverse turns'
 
-    abbrev here : Context
-    here = inside (before k) item
+      abbrev here : Context
+      here = inside (before k) item
 
-    -- what the part is evaluated in
-    context-here : context dynamic focus bound' ≡ here
-    context-here = ap (context dynamic focus) bound_is ∙
-        (λ j. record { focus = focus; bound = reverse-push (take (height + k) bound) item j; outer = dynamic.env.now })
+      -- what the part is evaluated in
+      context-here : context dynamic focus bound' ≡ here
+      context-here = ap (context dynamic focus) bound_is ∙
+          (λ j. record { focus = focus; bound = reverse-push (take (height + k) bound) item j; outer = dynamic.env.now })
 
-    front : length (take (height + k) bound) ≡ height + k
-    front = omega (arith, length-take (height + k) bound, room)
+      front : length (take (height + k) bound) ≡ height + k
+      front = omega (arith, length-take (height + k) bound, room)
 
-    same-below : (j : ℕ) → j < length rest → now j ≡ before j
-    same-below j h =
-        let below : height + j ≤ height + k = omega (arith, h, length-reverse turns', long) in
-        ap (context dynamic focus) (ap (take (height + j)) bound_is ∙
-        (take-append-le (height + j) (take (height + k) bound) (item ∷ []) (omega (arith, below, front)) ∙ take-take (height + j) (height + k) bound below))
+      same-below : (j : ℕ) → j < length rest → now j ≡ before j
+      same-below j h =
+          let below : height + j ≤ height + k = omega (arith, h, length-reverse turns', long) in
+          ap (context dynamic focus) (ap (take (height + j)) bound_is ∙
+          (take-append-le (height + j) (take (height + k) bound) (item ∷ []) (omega (arith, below, front)) ∙ take-take (height + j) (height + k) bound below))
 
-    same-rest : to_come binder nodes inner now rest ≡ to_come binder nodes inner before rest
-    same-rest = same-to_come binder nodes inner now before rest same-below
+      same-rest : to_come binder nodes inner now rest ≡ to_come binder nodes inner before rest
+      same-rest = same-to_come binder nodes inner now before rest same-below
 
-    same-cost : costs nodes inner now rest ≡ costs nodes inner before rest
-    same-cost = same-costs binder nodes inner now before rest same-below
+      same-cost : costs nodes inner now rest ≡ costs nodes inner before rest
+      same-cost = same-costs binder nodes inner now before rest same-below
 
-    rest-long : length rest ≡ suc k
-    rest-long = length-reverse turns' ∙ long
+      rest-long : length rest ≡ suc k
+      rest-long = length-reverse turns' ∙ long
 
-    opened : to_come binder nodes inner before (reverse turns) ≡ join binder (mean nodes (bound_all binder (drop k inner)) here)
-        (to_come binder nodes inner before rest)
-    opened = to_come-next binder nodes inner before item rest k rest-long (reverse turns) next
+      opened : to_come binder nodes inner before (reverse turns) ≡ join binder (mean nodes (bound_all binder (drop k inner)) here)
+          (to_come binder nodes inner before rest)
+      opened = to_come-next binder nodes inner before item rest k rest-long (reverse turns) next
 
-    inner-here : drop k inner ≡ (label_of part.0, seen names part.1) ∷ operands_of names (drop (k + 1) parts)
-    inner-here = drop-operands names k parts ∙ ap (operands_of names) part_is
+      inner-here : drop k inner ≡ (label_of part.0, seen names part.1) ∷ operands_of names (drop (k + 1) parts)
+      inner-here = drop-operands names k parts ∙ ap (operands_of names) part_is
 
-    abbrev found_here : Value
-    found_here = value_in dynamic (seen names part.1) focus bound'
+      abbrev found_here : Value
+      found_here = value_in dynamic (seen names part.1) focus bound'
 
-    found-is : found_here ≡ mean nodes (seen names part.1) here
-    found-is = ap (mean nodes (seen names part.1)) context-here
+      found-is : found_here ≡ mean nodes (seen names part.1) here
+      found-is = ap (mean nodes (seen names part.1)) context-here
 
-    pub turn-err : (out : List Item) (error : DynError) → found_here ≡ Err error →
-        after binder out (to_come binder nodes inner before (reverse turns)) ≡ Err error
-    turn-err out error is =
-        ap (after binder out) opened
-        ∙ (ap (λ v. after binder out (join binder v (to_come binder nodes inner before rest)))
-        (ap (λ parts. mean nodes (bound_all binder parts) here) inner-here ∙
-        part-err nodes binder (label_of part.0, seen names part.1) (operands_of names (drop (k + 1) parts)) here error (sym found-is ∙ is))
-        ∙ join-err binder out error (to_come binder nodes inner before rest))
+      pub turn-err : (out : List Item) (error : DynError) → found_here ≡ Err error →
+          after binder out (to_come binder nodes inner before (reverse turns)) ≡ Err error
+      turn-err out error is =
+          ap (after binder out) opened
+          ∙ (ap (λ v. after binder out (join binder v (to_come binder nodes inner before rest)))
+          (ap (λ parts. mean nodes (bound_all binder parts) here) inner-here ∙
+          part-err nodes binder (label_of part.0, seen names part.1) (operands_of names (drop (k + 1) parts)) here error (sym found-is ∙ is))
+          ∙ join-err binder out error (to_come binder nodes inner before rest))
 
-    module _ (found : List Item) (is : found_here ≡ Ok found) where
-      -- the part that the variables are for
-      module _ (last : length parts ≤ length turns') (out : List Item) where
-        none-behind : drop (k + 1) parts ≡ []
-        none-behind = at_drop_all (λ (xs : List (Separator × PlanNode)). xs) parts (k + 1) (omega (arith, last, long))
+      module _ (found : List Item) (is : found_here ≡ Ok found) where
+        -- the part that the variables are for
+        module _ (last : length parts ≤ length turns') (out : List Item) where
+          none-behind : drop (k + 1) parts ≡ []
+          none-behind = at_drop_all (λ (xs : List (Separator × PlanNode)). xs) parts (k + 1) (omega (arith, last, long))
 
-        last-value : mean nodes (bound_all binder (drop k inner)) here ≡ Ok found
-        last-value = ap (λ parts. mean nodes (bound_all binder parts) here)
-            (inner-here ∙ ap (λ behind. (label_of part.0, seen names part.1) ∷ operands_of names behind) none-behind) ∙ (sym found-is ∙ is)
+          last-value : mean nodes (bound_all binder (drop k inner)) here ≡ Ok found
+          last-value = ap (λ parts. mean nodes (bound_all binder parts) here)
+              (inner-here ∙ ap (λ behind. (label_of part.0, seen names part.1) ∷ operands_of names behind) none-behind) ∙ (sym found-is ∙ is)
 
-        last-opened : after binder out (to_come binder nodes inner before (reverse turns)) ≡ after binder out
-            (join binder (Ok found) (to_come binder nodes inner before rest))
-        last-opened = ap (after binder out) opened ∙ ap (λ v. after binder out (join binder v (to_come binder nodes inner before rest))) last-value
+          last-opened : after binder out (to_come binder nodes inner before (reverse turns)) ≡ after binder out
+              (join binder (Ok found) (to_come binder nodes inner before rest))
+          last-opened = ap (after binder out) opened ∙ ap (λ v. after binder out (join binder v (to_come binder nodes inner before rest))) last-value
 
-        pub taken-more : (out' : List Item) → Takes binder out found (Ok false) out'
-            → after binder out' (to_come binder nodes inner now rest) ≡ after binder out (to_come binder nodes inner before (reverse turns))
-        taken-more out' takes = ap (after binder out') same-rest ∙ sym (last-opened ∙ takes (to_come binder nodes inner before rest))
+          pub taken-more : (out' : List Item) → Takes binder out found (Ok false) out'
+              → after binder out' (to_come binder nodes inner now rest) ≡ after binder out (to_come binder nodes inner before (reverse turns))
+          taken-more out' takes = ap (after binder out') same-rest ∙ sym (last-opened ∙ takes (to_come binder nodes inner before rest))
 
-        pub taken-decided : (out' : List Item) → Takes binder out found (Ok true) out' →
-            after binder out (to_come binder nodes inner before (reverse turns)) ≡ decided binder
-        taken-decided out' takes = last-opened ∙ takes (to_come binder nodes inner before rest)
+          pub taken-decided : (out' : List Item) → Takes binder out found (Ok true) out' →
+              after binder out (to_come binder nodes inner before (reverse turns)) ≡ decided binder
+          taken-decided out' takes = last-opened ∙ takes (to_come binder nodes inner before rest)
 
-        pub taken-err : (out' : List Item) (error : DynError) → Takes binder out found (Err (f.Error error)) out' →
-            after binder out (to_come binder nodes inner before (reverse turns)) ≡ Err error
-        taken-err out' error takes = last-opened ∙ takes (to_come binder nodes inner before rest)
+          pub taken-err : (out' : List Item) (error : DynError) → Takes binder out found (Err (f.Error error)) out' →
+              after binder out (to_come binder nodes inner before (reverse turns)) ≡ Err error
+          taken-err out' error takes = last-opened ∙ takes (to_come binder nodes inner before rest)
 
-      pub fewer : costs nodes inner now rest < costs nodes inner before (reverse turns)
-      fewer = omega (arith, same-cost, costs-next binder nodes inner before item rest k rest-long (reverse turns) next)
+        pub fewer : costs nodes inner now rest < costs nodes inner before (reverse turns)
+        fewer = omega (arith, same-cost, costs-next binder nodes inner before item rest k rest-long (reverse turns) next)
 
-      -- the items of one variable more
-      module _ (some_more : length turns' < length parts) (turns'' : List (List Item)) (pushed : turns'' ≡ turns' ++ found ∷ []) where
-        more : k + 1 < length parts
-        more = omega (arith, some_more, long)
+        -- the items of one variable more
+        module _ (some_more : length turns' < length parts) (turns'' : List (List Item)) (pushed : turns'' ≡ turns' ++ found ∷ []) where
+          more : k + 1 < length parts
+          more = omega (arith, some_more, long)
 
-        abbrev part_behind : Separator × PlanNode
-        part_behind = get_or parts (k + 1) part
+          abbrev part_behind : Separator × PlanNode
+          part_behind = get_or parts (k + 1) part
 
-        behind-is : drop (k + 1) parts ≡ part_behind ∷ drop (k + 1 + 1) parts
-        behind-is = drop_more parts (k + 1) part more
+          behind-is : drop (k + 1) parts ≡ part_behind ∷ drop (k + 1 + 1) parts
+          behind-is = drop_more parts (k + 1) part more
 
-        abbrev behind : List Operand
-        behind = operands_of names (part_behind ∷ drop (k + 1 + 1) parts)
+          abbrev behind : List Operand
+          behind = operands_of names (part_behind ∷ drop (k + 1 + 1) parts)
 
-        stack-is : reverse turns'' ≡ found ∷ rest
-        stack-is = ap reverse pushed ∙ reverse-push turns' found
+          stack-is : reverse turns'' ≡ found ∷ rest
+          stack-is = ap reverse pushed ∙ reverse-push turns' found
 
-        level-is : drop (length rest) inner ≡ behind
-        level-is = ap (λ n. drop n inner) (rest-long ∙ omega arith) ∙ (drop-operands names (k + 1) parts ∙ ap (operands_of names) behind-is)
+          level-is : drop (length rest) inner ≡ behind
+          level-is = ap (λ n. drop n inner) (rest-long ∙ omega arith) ∙ (drop-operands names (k + 1) parts ∙ ap (operands_of names) behind-is)
 
-        now-is : now (length rest) ≡ here
-        now-is = ap (λ n. now n) rest-long ∙ (ap (context dynamic focus) (take-whole (height + suc k) bound' (omega (arith, long-bound))) ∙ context-here)
-          where
-            long-bound : length bound' ≤ height + suc k
-            long-bound = omega (arith, ap length bound_is ∙ length-push (take (height + k) bound) item, front)
+          now-is : now (length rest) ≡ here
+          now-is = ap (λ n. now n) rest-long ∙ (ap (context dynamic focus) (take-whole (height + suc k) bound' (omega (arith, long-bound))) ∙ context-here)
+            where
+              long-bound : length bound' ≤ height + suc k
+              long-bound = omega (arith, ap length bound_is ∙ length-push (take (height + k) bound) item, front)
 
-        more-opened : mean nodes (bound_all binder (drop k inner)) here ≡ bound_by binder (λ it. mean nodes (bound_all binder behind) (inside here it)) found
-        more-opened = ap (λ parts. mean nodes (bound_all binder parts) here)
-            (inner-here ∙ ap (λ behind. (label_of part.0, seen names part.1) ∷ operands_of names behind) behind-is)
-            ∙ ap (λ v. then_ v (bound_by binder (λ it. mean nodes (bound_all binder behind) (inside here it)))) (sym found-is ∙ is)
+          more-opened : mean nodes (bound_all binder (drop k inner)) here ≡ bound_by binder (λ it. mean nodes (bound_all binder behind) (inside here it)) found
+          more-opened = ap (λ parts. mean nodes (bound_all binder parts) here)
+              (inner-here ∙ ap (λ behind. (label_of part.0, seen names part.1) ∷ operands_of names behind) behind-is)
+              ∙ ap (λ v. then_ v (bound_by binder (λ it. mean nodes (bound_all binder behind) (inside here it)))) (sym found-is ∙ is)
 
-        onto-is : to_come binder nodes inner now (found ∷ rest) ≡ turns_onto binder (λ it. mean nodes (bound_all binder behind) (inside here it)) found
-            (to_come binder nodes inner before rest)
-        onto-is = λ j. turns_onto binder (λ it. mean nodes (bound_all binder (level-is j)) (inside (now-is j) it)) found (same-rest j)
+          onto-is : to_come binder nodes inner now (found ∷ rest) ≡ turns_onto binder (λ it. mean nodes (bound_all binder behind) (inside here it)) found
+              (to_come binder nodes inner before rest)
+          onto-is = λ j. turns_onto binder (λ it. mean nodes (bound_all binder (level-is j)) (inside (now-is j) it)) found (same-rest j)
 
-        pub pushed-more : (out : List Item) → after binder out (to_come binder nodes inner now (reverse turns'')) ≡ after binder out
-            (to_come binder nodes inner before (reverse turns))
-        pushed-more out = ap (λ levels. after binder out (to_come binder nodes inner now levels)) stack-is
-            ∙ ap (after binder out) (onto-is ∙
-            (sym (bound-joined (λ it. mean nodes (bound_all binder behind) (inside here it)) binder found (to_come binder nodes inner before rest))
-            ∙ (ap (λ v. join binder v (to_come binder nodes inner before rest)) (sym more-opened) ∙ sym opened)))
+          pub pushed-more : (out : List Item) → after binder out (to_come binder nodes inner now (reverse turns'')) ≡ after binder out
+              (to_come binder nodes inner before (reverse turns))
+          pushed-more out = ap (λ levels. after binder out (to_come binder nodes inner now levels)) stack-is
+              ∙ ap (after binder out) (onto-is ∙
+              (sym (bound-joined (λ it. mean nodes (bound_all binder behind) (inside here it)) binder found (to_come binder nodes inner before rest))
+              ∙ (ap (λ v. join binder v (to_come binder nodes inner before rest)) (sym more-opened) ∙ sym opened)))
 
-        cost-here : cost nodes (drop k inner) here ≡ total (λ it. cost nodes behind (inside here it)) found
-        cost-here = ap (λ parts. cost nodes parts here) (inner-here ∙ ap (λ behind. (label_of part.0, seen names part.1) ∷ operands_of names behind) behind-is)
-            ∙ ap (total_of (λ it. cost nodes behind (inside here it))) (sym found-is ∙ is)
+          cost-here : cost nodes (drop k inner) here ≡ total (λ it. cost nodes behind (inside here it)) found
+          cost-here = ap (λ parts. cost nodes parts here) (inner-here ∙ ap (λ behind. (label_of part.0, seen names part.1) ∷ operands_of names behind) behind-is)
+              ∙ ap (total_of (λ it. cost nodes behind (inside here it))) (sym found-is ∙ is)
 
-        cost-now : costs nodes inner now (reverse turns'') ≡ total (λ it. cost nodes behind (inside here it)) found + costs nodes inner before rest
-        cost-now = ap (costs nodes inner now) stack-is ∙ (λ j. total (λ it. cost nodes (level-is j) (inside (now-is j) it)) found + same-cost j)
+          cost-now : costs nodes inner now (reverse turns'') ≡ total (λ it. cost nodes behind (inside here it)) found + costs nodes inner before rest
+          cost-now = ap (costs nodes inner now) stack-is ∙ (λ j. total (λ it. cost nodes (level-is j) (inside (now-is j) it)) found + same-cost j)
 
-        pub fewer-pushed : costs nodes inner now (reverse turns'') < costs nodes inner before (reverse turns)
-        fewer-pushed = omega (arith, cost-now, cost-here, costs-next binder nodes inner before item rest k rest-long (reverse turns) next)
+          pub fewer-pushed : costs nodes inner now (reverse turns'') < costs nodes inner before (reverse turns)
+          fewer-pushed = omega (arith, cost-now, cost-here, costs-next binder nodes inner before item rest k rest-long (reverse turns) next)
 
-    -- what is left of the bound items around, and how many there are
-    pub around-kept : take height bound' ≡ take height bound
-    around-kept = ap (take height) bound_is ∙ (take-append-le height (take (height + k) bound) (item ∷ []) (omega (arith, front)) ∙
-        take-take height (height + k) bound (omega arith))
+      -- what is left of the bound items around, and how many there are
+      pub around-kept : take height bound' ≡ take height bound
+      around-kept = ap (take height) bound_is ∙ (take-append-le height (take (height + k) bound) (item ∷ []) (omega (arith, front)) ∙
+          take-take height (height + k) bound (omega arith))
 
-    pub high-now : length bound' ≡ height + length turns'
-    high-now = omega (arith, long, ap length bound_is ∙ length-push (take (height + k) bound) item, front)
+      pub high-now : length bound' ≡ height + length turns'
+      high-now = omega (arith, long, ap length bound_is ∙ length-push (take (height + k) bound) item, front)
 
-    -- a fault of the part
-    pub turn-fault : (out : List Item) (whole : Value) (fault : Fault) → after binder out (to_come binder nodes inner before (reverse turns)) ≡ whole →
-        Gives {X = List Item} (Err fault) found_here → Gives {X = List Item} (Err fault) whole
-    turn-fault out whole f.Memory goes is = tt
-    turn-fault out whole (f.Error error) goes is = sym goes ∙ turn-err out error is
+      -- a fault of the part
+      pub turn-fault : (out : List Item) (whole : Value) (fault : Fault) → after binder out (to_come binder nodes inner before (reverse turns)) ≡ whole →
+          Gives {X = List Item} (Err fault) found_here → Gives {X = List Item} (Err fault) whole
+      turn-fault out whole f.Memory goes is = tt
+      turn-fault out whole (f.Error error) goes is = sym goes ∙ turn-err out error is
 
-    pub taken-fault : (found : List Item) (is : found_here ≡ Ok found) (last : length parts ≤ length turns') (out out' : List Item) (whole : Value)
-        (fault : Fault) → after binder out (to_come binder nodes inner before (reverse turns)) ≡ whole
-        → Takes binder out found (Err fault) out' → Gives {X = List Item} (Err fault) whole
-    taken-fault found is last out out' whole f.Memory goes takes = tt
-    taken-fault found is last out out' whole (f.Error error) goes takes = sym goes ∙ taken-err found is last out out' error takes
+      pub taken-fault : (found : List Item) (is : found_here ≡ Ok found) (last : length parts ≤ length turns') (out out' : List Item) (whole : Value)
+          (fault : Fault) → after binder out (to_come binder nodes inner before (reverse turns)) ≡ whole
+          → Takes binder out found (Err fault) out' → Gives {X = List Item} (Err fault) whole
+      taken-fault found is last out out' whole f.Memory goes takes = tt
+      taken-fault found is last out out' whole (f.Error error) goes takes = sym goes ∙ taken-err found is last out out' error takes

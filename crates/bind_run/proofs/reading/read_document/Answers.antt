@@ -14,7 +14,7 @@ pub returns-in-Ok-clause-within : goal.returns-in-Ok-clause-within
 returns-in-Ok-clause-within c =
     reads-within _ _ c.read_counted.result c.read_counted.ensures.reads
     (document-within c.args.doc.now c.is_of_a_tree.ensures.numbers c.is_of_a_tree.ensures.rooted c.args.lists.now (rows_in c.args.tables.now
-        c.in-Ok.document_type))
+    c.in-Ok.document_type))
 
 pub returns-in-Err-clause-reads : goal.returns-in-Err-clause-reads
 returns-in-Err-clause-reads c = λ _.

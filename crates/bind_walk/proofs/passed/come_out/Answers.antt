@@ -20,7 +20,7 @@ way-preserved c =
     (sym c.in-Some.is ∙ (c.innermost.ensures ∙ ap (λ ws. slice_get ws (length ws - 1)) c.as_slice.ensures.value))
     (λ same. false≢true (sym (sym c.eq.ensures ∙ c.if-eq.false) ∙ eq-eqb _ _ same))
     (c.pop.ensures.rest ∙ ap (λ n. take (n - 1) c.way.reached.way.items) (sym c.as_slice.ensures.len
-        ∙ ap length c.as_slice.ensures.value)) c.truncate.ensures.items
+    ∙ ap length c.as_slice.ensures.value)) c.truncate.ensures.items
 
 pub unreachable-requires : goal.unreachable-requires
 unreachable-requires c =

@@ -8,25 +8,25 @@ use Rattle.invoice_jobs.proofs.invoices.write_by.Goals as goal
 pub carries-requires-clause-laid : goal.carries-requires-clause-laid
 carries-requires-clause-laid g c =
     table_laid c.args.loaded.now.reading_profile.extension c.requires.good (target c.args.loaded.now.read.invoice c.args.syntax) c.args.table.now
-        c.requires.table
+    c.requires.table
     c.extended_tables_are_laid.ensures.laid
 
 pub carries-requires-clause-notes : goal.carries-requires-clause-notes
 carries-requires-clause-notes g c =
     table_notes c.args.loaded.now.reading_profile.extension c.requires.good (target c.args.loaded.now.read.invoice c.args.syntax) c.args.table.now
-        c.requires.table
+    c.requires.table
     c.extended_tables_are_laid.ensures.notes
 
 pub write-requires-clause-laid : goal.write-requires-clause-laid
 write-requires-clause-laid g c =
     table_laid c.args.loaded.now.reading_profile.extension c.requires.good (target c.args.loaded.now.read.invoice c.args.syntax) c.args.table.now
-        c.requires.table
+    c.requires.table
     c.extended_tables_are_laid.ensures.laid
 
 pub write-requires-clause-notes : goal.write-requires-clause-notes
 write-requires-clause-notes g c =
     table_notes c.args.loaded.now.reading_profile.extension c.requires.good (target c.args.loaded.now.read.invoice c.args.syntax) c.args.table.now
-        c.requires.table
+    c.requires.table
     c.extended_tables_are_laid.ensures.notes
 
 pub returns-in-Err : goal.returns-in-Err

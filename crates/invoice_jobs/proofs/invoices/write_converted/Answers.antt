@@ -7,7 +7,7 @@ use Rattle.invoice_jobs.proofs.invoices.write_converted.Goals as goal
 pub write_by-status-requires-clause-table : goal.write_by-status-requires-clause-table
 write_by-status-requires-clause-table g c =
     c.as_ref.ensures ∙ (c.in-Ok.ensures ∙ (c.requires.tables c.target-document_type.result ∙ ap (rows_for c.args.loaded.now.reading_profile.extension)
-        c.target-document_type.ensures))
+    c.target-document_type.ensures))
 
 pub returns-in-Err : goal.returns-in-Err
 returns-in-Err g c = λ shelf.

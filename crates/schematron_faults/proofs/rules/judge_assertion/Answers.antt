@@ -11,5 +11,5 @@ pub returns : goal.returns
 returns c = on_ok c.judge_parts.result (goes-append c.args.search.now c.judge.new.search c.judge_parts.new.search
     (written a.Test false c.args.inclusion.now.stand c.args.params.now c.args.all.now (seen_put c.args.inclusion.now).entry)
     (written_parts c.args.inclusion.now.stand c.args.params.now c.args.all.now (inside is_part c.args.file.now.entries (seen_put
-        c.args.inclusion.now).entry.number))
+    c.args.inclusion.now).entry.number))
     c.in_ok-judge.ensures) c.judge_parts.ensures

@@ -10,11 +10,11 @@ inclusions-preserved c = record {
   goes = puts_turn c.args.search.now c.inclusions.search c.judge_put.new.search _ c.args.file.now.entries c.args.params.now c.args.all.now c.inclusions.before
       c.judge_put.new.before (seen_put c.inclusion-item.result) _ _
       (seen_next seen_put c.args.inclusions.now c.inclusions.inclusion-index c.inclusion-item.result c.inclusion-item.is c.inclusions-test.true)
-          c.in_ok-judge_put.ensures.before
+      c.in_ok-judge_put.ensures.before
       c.in_ok-judge_put.ensures.goes c.inclusions.invariant.goes;
   before = puts_scope_turn c.args.params.now c.inclusions.before c.judge_put.new.before _ (seen_put c.inclusion-item.result) _ _
       (seen_next seen_put c.args.inclusions.now c.inclusions.inclusion-index c.inclusion-item.result c.inclusion-item.is c.inclusions-test.true)
-          c.in_ok-judge_put.ensures.before
+      c.in_ok-judge_put.ensures.before
       c.inclusions.invariant.before;
 }
 

@@ -17,7 +17,7 @@ budget-smaller-in-Some-Own c =
 pub budget-preserved-in-Some-Own : goal.budget-preserved-in-Some-Own
 budget-preserved-in-Some-Own c =
     walks-own (bodies_of c.args.bodies.now) c.budget.gone.keys _ c.budget.out.items c.push.new.self.items c.budget.place c.budget.above.items
-        c.in-Some-Own.thing
+    c.in-Some-Own.thing
     (sym c.in-Some-Own.ensures.part ∙ ap Some c.in-Some-Own.field-0-is) c.in_ok-push-in-Some-Own.ensures.items c.budget.invariant
 
 pub budget-smaller-then-not-contains : goal.budget-smaller-then-not-contains

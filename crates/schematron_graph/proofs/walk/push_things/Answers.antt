@@ -25,7 +25,7 @@ pub budget-preserved-in-Some-Own : goal.budget-preserved-in-Some-Own
 budget-preserved-in-Some-Own c =
     let bodies : List (List Part) = bodies_of c.args.bodies.now in
     let e = things_left-own bodies c.budget.place c.budget.above.items c.in-Some-Own.thing (sym c.in-Some-Own.ensures.part
-        ∙ ap Some c.in-Some-Own.field-0-is) in
+    ∙ ap Some c.in-Some-Own.field-0-is) in
     rw c.in_ok-push_thing-in-Some-Own.ensures
     (append_assoc c.budget.out.items (c.in-Some-Own.thing ∷ []) (things_left bodies (behind_one c.budget.place) c.budget.above.items)
     ∙ (ap (λ t. c.budget.out.items ++ t) (sym e) ∙ c.budget.invariant))

@@ -22,6 +22,6 @@ pub returns-in-Err-load_extended-clause-fails : goal.returns-in-Err-load_extende
 returns-in-Err-load_extended-clause-fails g c =
     let named = c.args.sources.now in
     profile_fails (listed_protocol (option_map text_of named.codes_file)) (option_map text_of named.extension_file) c.in-Ok.lists (g.S.Shelf.view
-        c.args.shelf.now)
+    c.args.shelf.now)
     (g.S.Shelf.view c.load_lists.new.shelf) (g.S.Shelf.view c.load_extended.new.shelf) (g.E.Sink.view c.args.err.now) (g.E.Sink.view c.load_lists.new.err)
     (g.E.Sink.view c.load_extended.new.err) c.in-Ok.ensures.goes_on c.in-Err-load_extended.status c.in-Err-load_extended.ensures.fails

@@ -10,7 +10,7 @@ use Rattle.validation_jobs.proofs.validating.report.Goals as goal
 pub returns-in-Err : goal.returns-in-Err
 returns-in-Err g c = λ content lines shelf err.
     memory_here (ends (reported c.args.svrl (validated content c.args.placed.now.doc (reading_report_of c.args.reading_report.now) (seen_ready
-        c.args.ready.now)))) shelf
+    c.args.ready.now)))) shelf
     (g.O.Sink.view c.args.out.now) err
 
 pub returns-in-Ok-made : goal.returns-in-Ok-made

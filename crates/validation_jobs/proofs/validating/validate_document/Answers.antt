@@ -20,6 +20,6 @@ returns-in-Err g c = λ content lines shelf.
     let held = c.args.reading_profile.now in
     let doc = c.args.placed.now.doc in
     document_refused c.args.svrl c.args.file.now (profile_of held) content doc shelf c.in-Err.fault (g.O.Sink.view c.args.out.now) (g.E.Sink.view
-        c.args.err.now)
+    c.args.err.now)
     (g.E.Sink.view c.refuse_invoice.new.err) c.refuse_invoice.result
     (λ other. same_faults held.extension held.tables c.requires.tables (tree_nodes doc) held.lists ∙ c.in-Err.ensures.finds other) c.refuse_invoice.ensures

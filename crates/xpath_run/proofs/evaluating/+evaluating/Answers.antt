@@ -117,7 +117,7 @@ pub bind-returns-clause-value : goal.bind-returns-clause-value
 bind-returns-clause-value g t c =
     gives-along c.take_turns-found.result _ _
     (known.bind-value (tree_nodes c.args.dynamic.now.doc.now) c.args.dynamic.now.names.now c.args.binder c.args.parts.now c.in-Some.first.now
-        c.in-Some.inside.now
+    c.in-Some.inside.now
     (context c.args.dynamic.now c.args.focus.now c.args.bound.now.items) (context c.args.dynamic.now c.args.focus.now c.evaluate.new.bound.items)
     c.in_ok-items.items
     c.in-Some.ensures.cases.0 (omega arith) (ap (context c.args.dynamic.now c.args.focus.now) c.evaluate.ensures.kept) c.in_ok-items.ensures.value)

@@ -12,3 +12,5 @@ pub mod Faults
 pub mod Writing
 pub mod Trees
 pub mod Tables
+pub mod Said
+pub mod Losses

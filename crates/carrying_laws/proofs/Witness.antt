@@ -28,7 +28,7 @@ use Rattle.inv_terms.specs.declared.values.Value.TheVariants as values
 use Rattle.inv_terms.specs.declared.entries.Entry.{Entry}
 use Rattle.inv_terms.specs.Values.{value_of}
 use Rattle.inv_terms.specs.Listing.{Fits, IsInvoice, is_placed, is_listed, is_numbered, in_outer}
-use Rattle.inv_terms.specs.Validity.{first_lack}
+use Rattle.inv_terms.specs.Validity.{first_violation}
 use Rattle.inv_terms.specs.Whole.{IsValid}
 use Rattle.inv_terms.proofs.ValidLemmas.{valid}
 use Rattle.xml_write.specs.Canonical.{declaration_line}
@@ -131,7 +131,7 @@ small-invoice = record { placed = small-placed; fit = fits-all given small-fits;
 
 -- ---- it is valid, and is carried
 
-small-lacks : first_lack small_invoice built_in_lists ≡ None
+small-lacks : first_violation small_invoice built_in_lists ≡ None
 unfolding value_of is_char is_white_space terms extension_rows listing_rows parent_of occurrence_of first_row read_scaled written_units read_dashed_day day_from
 small-lacks = refl
 

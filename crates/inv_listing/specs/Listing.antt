@@ -8,8 +8,8 @@ use Rattle.term_table.specs.SemanticModel.{is_extension}
 use Rattle.term_table.specs.Groups.{label_of}
 use Rattle.inv_terms.specs.declared.entries.Entry.{Entry}
 use Rattle.inv_terms.specs.Values.{spelled}
-use Rattle.inv_terms.specs.declared.lacks.Name.{Name}
-use Rattle.inv_terms.specs.declared.lacks.Name.TheVariants as names
+use Rattle.inv_terms.specs.declared.violations.Name.{Name}
+use Rattle.inv_terms.specs.declared.violations.Name.TheVariants as names
 
 -- the part of a term, behind its number
 abbrev pub part_text : ℕ → List ℕ

@@ -1,6 +1,6 @@
 //! Rules that put each other, by hand.
 
-use schematron_graph::{Graph, Part, Spot, Thing, Turns};
+use schematron_graph::{Budget, Graph, Part, Spot, Thing};
 use std::alloc::{AllocError, Global};
 use std::test::Fail;
 use test_rows::expect;
@@ -32,7 +32,7 @@ fn are_firsts(
     body: &[Part],
     want: &[u32],
 ) -> Result<bool, AllocError> {
-    let mut ample = Turns { left: u64::MAX };
+    let mut ample = Budget { left: u64::MAX };
     let things = graph.firsts(alloc, &mut ample, body)?;
     are_numbered(alloc, &things, want)
 }
@@ -186,13 +186,13 @@ const BUSHY: &str = "\
 3 4";
 
 fn takes_ten(alloc: Global, graph: &Graph) -> Result<bool, AllocError> {
-    let mut enough = Turns { left: 10 };
+    let mut enough = Budget { left: 10 };
     let things = graph.firsts(alloc, &mut enough, &[Part::Puts(0)])?;
     Ok(things.len() == 4 && enough.left == 0)
 }
 
 fn gives_up(alloc: Global, graph: &Graph) -> bool {
-    let mut few = Turns { left: 9 };
+    let mut few = Budget { left: 9 };
     graph.firsts(alloc, &mut few, &[Part::Puts(0)]).is_err()
 }
 
@@ -203,12 +203,12 @@ fn turns_are_taken(rt: HostRuntime) -> Result<(), Fail> {
     let enough = takes_ten(rt.alloc(), &graph);
     let too_few = gives_up(rt.alloc(), &graph);
     drop(graph);
-    expect(enough?, "things, turns")?;
+    expect(enough?, "things, budget")?;
     expect(too_few, "too few")
 }
 
 /// How often the things of a rule are found before no turn is left, at most so often.
-fn walks_until_none(alloc: Global, graph: &Graph, mut left: Turns, most: usize) -> usize {
+fn walks_until_none(alloc: Global, graph: &Graph, mut left: Budget, most: usize) -> usize {
     'walks: for walk in 0..most {
         if graph.firsts(alloc, &mut left, &[Part::Puts(0)]).is_err() {
             return walk;
@@ -230,7 +230,7 @@ fn long(alloc: Global) -> Result<Graph, AllocError> {
 #[test]
 fn many_walks_end(rt: HostRuntime) -> Result<(), Fail> {
     let graph = long(rt.alloc())?;
-    let left = Turns { left: 300_000 };
+    let left = Budget { left: 300_000 };
     let walks = walks_until_none(rt.alloc(), &graph, left, 3_000);
     drop(graph);
     expect(walks == 99, "walks")

@@ -17,7 +17,7 @@ use Rattle.term_table.proofs.SeatLemmas.{same_term_is}
 use Rattle.inv_terms.specs.declared.values.Value.TheVariants as values
 use Rattle.inv_terms.specs.declared.entries.Entry.{Entry}
 use Rattle.inv_terms.specs.Lacking.{is_slot_in}
-use Rattle.inv_terms.specs.Validity.{first_lack, list_of, code_in, is_outside, is_unlisted}
+use Rattle.inv_terms.specs.Validity.{first_violation, list_of, code_in, is_outside, is_unlisted}
 use Rattle.inv_terms.specs.Whole.{IsContextOf, IsWhole, IsListed, IsValid}
 use Rattle.inv_terms.proofs.PushLemmas.{same_slot_itself, same_slot_is, and_pair}
 use Rattle.inv_terms.proofs.ContextLemmas.{append_cases, context_is}
@@ -33,7 +33,7 @@ use Rattle.trial_laws.proofs.Mirrors.{HasLike, inside-itself, whole}
 abbrev pub sample : List Entry
 sample = head 0 ++ line 1
 
-sample-lacks : first_lack sample built_in_lists ≡ None
+sample-lacks : first_violation sample built_in_lists ≡ None
 unfolding terms extension_rows listing_rows parent_of occurrence_of first_row
 sample-lacks = refl
 

@@ -12,7 +12,7 @@ use Rattle.bind_meaning.specs.Terms.{terms_of}
 use Rattle.bind_write.specs.Documents.{document_text}
 use Rattle.bind_carrying.specs.Tables.{target}
 use Rattle.bind_run.specs.Reading.{by_root, invoice_by, invoice_of, rows_in}
-use Rattle.bind_run.specs.Roots.{which_of}
+use Rattle.bind_run.specs.Roots.{document_type_of}
 use Rattle.trial_run.specs.declared.reading.Means.{Means}
 use Rattle.trial_run.specs.Memory.{written, AreBuiltIn}
 
@@ -39,5 +39,5 @@ pub by-built_in : (means : Means) → AreBuiltIn means → (nodes : List Node)
     → invoice_by (rows_in means.tables) nodes means.lists ≡ invoice_of nodes built_in_lists
 by-built_in means are nodes =
     by-option (by_root (rows_in means.tables) nodes means.lists) (by_root rows_of nodes means.lists) refl
-    (λ table. ap (λ rows. terms_of nodes rows means.lists) (are.tables table)) (which_of nodes)
+    (λ table. ap (λ rows. terms_of nodes rows means.lists) (are.tables table)) (document_type_of nodes)
     ∙ ap (invoice_of nodes) are.lists

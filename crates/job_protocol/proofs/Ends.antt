@@ -68,7 +68,7 @@ module _ (name : List ℕ) (shelf mid shelf' : ShelfView) (out out' err mid_err 
           → RunsInPieces (told_protocol name next) (record { shelf = shelf; out = out; err = err }) (record { shelf = shelf'; out = out'; err = err' }) status
       pieces_behind_told further =
           pieces_behind (told_protocol name next) (next found.content found.found) shelf mid shelf' out out' err mid_err err' status behind_it read quiet
-              further
+          further
 
   -- what follows behind a document
   pub behind_document : (next : profile.Document → Protocol) (doc : Document) (found : IsLoaded document_limits (option_map (bytes_under name) shelf.held) doc)

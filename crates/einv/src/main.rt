@@ -2,7 +2,7 @@
 #![tactic(auto)]
 
 use inv_base::write_all;
-use invoice_cli::{FileShelf, OutputSink, Status, run};
+use invoice_cli::{FileShelf, OutputSink, Status, exit_number, run};
 use std::alloc::Global;
 use std::env;
 use std::io::ErrorKind;
@@ -10,7 +10,7 @@ use std::process::ExitCode;
 
 /// Answers the program's words, and ends with the number of the status.
 fn main(rt: HostRuntime) -> ExitCode {
-    ExitCode::from(answered(rt) as u8)
+    ExitCode::from(exit_number(answered(rt)))
 }
 
 fn answered(rt: HostRuntime) -> Status {

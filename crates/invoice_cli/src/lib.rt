@@ -11,5 +11,5 @@ mod version;
 mod words;
 
 pub use adapters::{FileShelf, OutputSink};
-pub use job_protocol::Status;
+pub use job_protocol::{Status, exit_number};
 pub use program::run;

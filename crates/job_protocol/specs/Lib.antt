@@ -5,3 +5,4 @@ pub mod Runs
 pub mod Libraries
 pub mod Views
 pub mod Documents
+pub mod Numbers

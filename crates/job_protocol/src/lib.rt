@@ -11,5 +11,5 @@ mod telling;
 pub use documents::{Placed, load_document, load_placed};
 pub use files::{take_file, take_lists};
 pub use libraries::load_library;
-pub use status::Status;
+pub use status::{Status, exit_number};
 pub use telling::{tell_bad_word, tell_document_fault, tell_read_fault};

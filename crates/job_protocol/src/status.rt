@@ -1,4 +1,7 @@
-/// How the program ends. Its number is the exit status.
+ghost use Rattle.std.specs.Prelude.{◌≡◌};
+ghost use Rattle.job_protocol.specs.Numbers as spec;
+
+/// How the program ends.
 #[derive(Clone, Copy, PartialEq, Eq)]
 pub enum Status {
     /// The output is the answer.
@@ -19,4 +22,21 @@ pub enum Status {
     WriteFault,
     /// Memory ran out.
     Memory,
+}
+
+/// The number with which the program ends, its exit status.
+pub fn exit_number(status: Status) -> u8
+    ensures { result ≡ spec.exit_number status }
+{
+    match status {
+        Status::Done => 0,
+        Status::Findings => 1,
+        Status::BadWords => 2,
+        Status::DocumentRefused => 3,
+        Status::RulesRefused => 4,
+        Status::Unable => 5,
+        Status::ReadFault => 6,
+        Status::WriteFault => 7,
+        Status::Memory => 8,
+    }
 }

@@ -1,5 +1,5 @@
-//! The tests of files and outputs in memory, of texts and characters, of lines and columns, of canonical text, of JSON text, of
-//! numbers and days, and of code lists.
+//! The tests of files and outputs in memory, of texts and characters, of lines and columns, of canonical text, of JSON text that is
+//! written and read, of numbers and days, and of code lists.
 #![tactic(auto)]
 
 #[cfg(test)]
@@ -10,6 +10,8 @@ mod inv_base_cases;
 mod inv_decimal_cases;
 #[cfg(test)]
 mod json_cases;
+#[cfg(test)]
+mod json_reading_cases;
 #[cfg(test)]
 mod line_cases;
 #[cfg(test)]

@@ -1,0 +1,5 @@
+pub mod ReaderLemmas
+pub mod IdleLemmas
+pub mod ReadingLemmas
+pub mod TextLemmas
+mod Rows

@@ -1,0 +1,4 @@
+pub mod Steps
+pub mod Good
+pub mod Completing
+pub mod Stopping

@@ -1,5 +1,5 @@
 #!/usr/bin/env python3
-"""Every command on hostile documents, invoices, expressions and files of further terms: how long each takes and how much memory it holds.
+"""Every command on hostile documents, invoices, expressions and files of extension terms: how long each takes and how much memory it holds.
 
     python3 bench/hostile.py [PROGRAM] [WORD]
 
@@ -42,7 +42,7 @@ def nested():
     return "<a>" * 97 + "<b/>" * 400_000 + "</a>" * 97
 
 
-def further_terms():
+def extension_terms():
     """A file of all terms that a user may add, each in a line."""
     return "\n".join(
         '[[term]]\nnumber = %d\nplace = "line"\ntype = "I"\nubl = "%s"\ncn = "%s"\ncii = "%s"\n'
@@ -51,7 +51,7 @@ def further_terms():
     )
 
 
-def with_further_terms(lines):
+def with_extension_terms(lines):
     """An invoice of so many lines, each with all of those terms."""
     terms = "".join("<cac:Further%d><cbc:ID>x%d</cbc:ID></cac:Further%d>" % (n, n, n) for n in range(1, 100))
     return invoices.invoice(lines).replace("</cac:Item>", terms + "</cac:Item>")
@@ -114,13 +114,13 @@ def main():
         table(program, COMMANDS, {**outline.HOSTILE, **invoices.HOSTILE}, folder, asked)
         expressions(program, folder, asked)
         terms = folder / "terms.toml"
-        terms.write_text(further_terms())
+        terms.write_text(extension_terms())
         given = ["--extension", str(terms)]
         extended = {name: [*COMMANDS[name], *given] for name in ("show", "convert to cii", "convert to ubl", "validate")}
         rows = {
-            "99 further terms, an invoice of one line": lambda: invoices.invoice(1),
-            "99 further terms, an invoice without them": lambda: invoices.invoice(10_000),
-            "99 further terms in each of 2,000 lines": lambda: with_further_terms(2_000),
+            "99 extension terms, an invoice of one line": lambda: invoices.invoice(1),
+            "99 extension terms, an invoice without them": lambda: invoices.invoice(10_000),
+            "99 extension terms in each of 2,000 lines": lambda: with_extension_terms(2_000),
         }
         table(program, extended, rows, folder, asked)
 

@@ -3,9 +3,9 @@
 
     python3 bench/invoices.py [PROGRAM] [RUNS]
 
-PROGRAM is crates/einv/out/einv if it isn't given, RUNS 5. Prints three tables: invoices of 100, 1,000, 10,000 and 20,000 lines in UBL and in
+PROGRAM is crates/einv/out/einv if it isn't given, RUNS 5. Prints four tables: invoices of 100, 1,000, 10,000 and 20,000 lines in UBL and in
 CII (each made from the UBL one by `einv convert`), with the times of outline, show, and convert to either syntax, and the ratios to
-outline; invoices with as many VAT breakdowns as lines, with the times of show and totals; and hostile invoices, with what einv answers. Each time is the least of the runs, in which the commands of a row take turns, in seconds
+outline; the same invoices with the times of convert and of `convert --whole`, where nothing is lost; invoices with as many VAT breakdowns as lines, with the times of show and totals; and hostile invoices, with what einv answers. Each time is the least of the runs, in which the commands of a row take turns, in seconds
 of a processor, start-up included.
 """
 import pathlib
@@ -112,6 +112,15 @@ def main():
                 figures = " | ".join("%.3f" % seconds for seconds in times)
                 ratios = " | ".join("%.2f" % ratio for ratio in (show / outline, ubl / show, cii / show))
                 print("| %s | %d | %.2f | %s | %s |" % (syntax, lines, path.stat().st_size / 1e6, figures, ratios))
+        print("\n| UBL, lines | MB | convert --to cii | convert --whole --to cii | whole / convert |")
+        print("|---|---|---|---|---|")
+        for lines in (1_000, 10_000, 20_000):
+            path.write_text(invoice(lines))
+            commands = (["convert", "--to", "cii"], ["convert", "--whole", "--to", "cii"])
+            (plain, _, said), (whole, _, told) = measuring.in_turns([[program, *words, str(path)] for words in commands], runs)
+            if said or told:
+                print("%d lines: %s" % (lines, (said + told).replace(str(path), "FILE")), file=sys.stderr)
+            print("| %d | %.2f | %.3f | %.3f | %.2f |" % (lines, path.stat().st_size / 1e6, plain, whole, whole / plain))
         print("\n| Lines and breakdowns | MB | show | totals | totals / show |")
         print("|---|---|---|---|---|")
         for lines in (1_000, 10_000, 20_000):

@@ -6,3 +6,4 @@ pub mod TableLemmas
 pub mod RoomLemmas
 pub mod PassedLemmas
 pub mod RootLemmas
+pub mod LossLemmas

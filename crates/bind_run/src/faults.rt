@@ -3,15 +3,17 @@ ghost use Rattle.std.specs.Prelude.{◌≡◌, ◌≢◌, ◌<◌, All, IfOk, If
 ghost use Rattle.node_arena.specs.Moves.{tree_nodes};
 ghost use Rattle.bind_table.specs.WellFormed.{first_fault};
 ghost use Rattle.bind_meaning.specs.Faults.{faults_in, passed_nodes};
+ghost use Rattle.bind_meaning.specs.Losses.{misplaced_nodes, unread_nodes};
 ghost use Rattle.bind_run.specs.Reading.{AreFormed, FindsFaults, IsWholeIfMemory, IsWithin, faults_by, rows_in};
 
-use crate::gathering::gather;
+use crate::gathering::gather_with_losses;
 use crate::judging::faults;
 use crate::reading::out_of_memory;
 use crate::roots::binding_of;
 use crate::tables::Tables;
 use bind_meaning::{BindFault, DocumentType};
 use bind_table::Binding;
+use bind_walk::Losses;
 use code_lists::CodeLists;
 use inv_base::{Steps, Txt};
 use node_arena::{Doc, NodeId};
@@ -27,6 +29,8 @@ pub struct ReadingReport {
     pub document_type: DocumentType,
     pub faults: Vec<BindFault>,
     pub passed_over: Vec<NodeId>,
+    /// What of the table's elements is unread, and which of them stand behind one that the table has later.
+    pub losses: Losses,
 }
 
 impl Drop for ReadingReport {
@@ -35,9 +39,11 @@ impl Drop for ReadingReport {
             document_type: _,
             faults,
             passed_over,
+            losses,
         } = self;
         drop(faults);
         drop(passed_over);
+        drop(losses);
     }
 }
 
@@ -90,6 +96,8 @@ fn faults_of_table<L: Ledger>(
     ensures document_type { IfOk result (λ found. found.document_type ≡ document_type) }
     ensures faults { IfOk result (λ found. found.faults.items ≡ faults_in (tree_nodes doc.now) (rows_in tables.now document_type) lists.now) }
     ensures passed_over { IfOk result (λ found. found.passed_over.items ≡ passed_nodes (tree_nodes doc.now) (rows_in tables.now document_type)) }
+    ensures unread { IfOk result (λ found. found.losses.unread.items ≡ unread_nodes (tree_nodes doc.now) (rows_in tables.now document_type)) }
+    ensures misplaced { IfOk result (λ found. found.losses.misplaced.items ≡ misplaced_nodes (tree_nodes doc.now) (rows_in tables.now document_type)) }
     ensures within { IfOk result (IsWithin (length doc.now.nodes)) }
 {
     let table = tables.table(alloc, document_type)?;
@@ -111,9 +119,12 @@ fn faults_by_table<L: Ledger>(
     ensures document_type { IfOk result (λ found. found.document_type ≡ document_type) }
     ensures faults { IfOk result (λ found. found.faults.items ≡ faults_in (tree_nodes doc.now) table.now lists.now) }
     ensures passed_over { IfOk result (λ found. found.passed_over.items ≡ passed_nodes (tree_nodes doc.now) table.now) }
+    ensures unread { IfOk result (λ found. found.losses.unread.items ≡ unread_nodes (tree_nodes doc.now) table.now) }
+    ensures misplaced { IfOk result (λ found. found.losses.misplaced.items ≡ misplaced_nodes (tree_nodes doc.now) table.now) }
     ensures within { IfOk result (IsWithin (length doc.now.nodes)) }
 {
-    let mut gathered = gather(alloc, doc, table, steps)?;
+    let (gathered, losses) = gather_with_losses(alloc, doc, table, steps)?;
+    let mut gathered = gathered;
     let picks = replace(&mut gathered.numbered.picks, Vec::new(alloc));
     let currency = gathered.numbered.invoice_currency.as_ref().map(Txt::as_str);
     let judged = faults(
@@ -133,9 +144,11 @@ fn faults_by_table<L: Ledger>(
             document_type,
             faults,
             passed_over,
+            losses,
         }),
         Err(error) => {
             drop(passed_over);
+            drop(losses);
             Err(error)
         }
     }

@@ -1,11 +1,16 @@
-ghost use Rattle.std.specs.Prelude.{◌≡◌, ◌≢◌, ◌<◌, Ok, length, IfErr};
+ghost use Rattle.std.specs.Prelude.{◌≡◌, ◌≢◌, ◌<◌, Ok, length, IfOk, IfErr, IfSome};
 ghost use Rattle.node_arena.specs.Moves.{tree_nodes};
 ghost use Rattle.bind_table.specs.WellFormed.{first_fault};
 ghost use Rattle.bind_meaning.specs.declared.fault.BindKind.TheVariants as kinds;
-ghost use Rattle.bind_meaning.specs.Terms.{terms_of};
-ghost use Rattle.bind_run.specs.Reading.{AreFormed, Reads, IsWholeIfMemory, invoice_by, rows_in, want_of_memory};
+ghost use Rattle.bind_meaning.specs.Currencies.{currencies};
+ghost use Rattle.bind_meaning.specs.Faults.{passed_nodes};
+ghost use Rattle.bind_meaning.specs.Kept.{all_kept, all_kept_placed};
+ghost use Rattle.bind_meaning.specs.Losses.{lost_nodes};
+ghost use Rattle.bind_meaning.specs.Terms.{in_order, terms_of};
+ghost use Rattle.bind_terms.specs.Reading.{indicator_picks, term_places};
+ghost use Rattle.bind_run.specs.Reading.{AreFormed, Reads, ReadsWhole, IsWholeIfMemory, first_lost, first_of, invoice_by, rows_in, want_of_memory};
 
-use crate::gathering::gather;
+use crate::gathering::{Gathered, gather, gather_whole};
 use crate::judging::judge;
 use crate::roots::binding_of;
 use crate::tables::Tables;
@@ -14,7 +19,7 @@ use bind_table::Binding;
 use code_lists::CodeLists;
 use inv_base::{Steps, Txt};
 use inv_terms::{Invoice, Name};
-use node_arena::Doc;
+use node_arena::{Doc, NodeId};
 use std::alloc::Global;
 use std::marker::Brand;
 use std::mem::replace;
@@ -26,6 +31,14 @@ use std::sync::ledger::{Blank, Ledger};
 pub struct ReadInvoice {
     pub invoice: Invoice,
     pub passed_over: u32,
+}
+
+/// An invoice that was read, and the first node of its document that isn't in it: an element that the table passes over, or an element or
+/// attribute of the table that is unread.
+#[derive(Drop)]
+pub struct WholeRead {
+    pub read: ReadInvoice,
+    pub lost: Option<NodeId>,
 }
 
 /// The invoice that a document is by a table, or its first fault. It goes over the document and the lines of the table once. Want of
@@ -41,11 +54,32 @@ pub fn read<L: Ledger>(
     ensures reads { Reads (terms_of (tree_nodes doc.now) table.now lists.now) result }
     ensures memory { IfErr result IsWholeIfMemory }
 {
+    match gather(alloc, doc, table, steps) {
+        Ok(gathered) => read_gathered(alloc, doc, table, lists, gathered, steps),
+        Err(_) => Err(out_of_memory(doc)),
+    }
+}
+
+/// The same by what the rows of the table pick.
+fn read_gathered<L: Ledger>(
+    alloc: Global,
+    doc: &Doc<'_>,
+    table: &Binding,
+    lists: &CodeLists,
+    gathered: Gathered,
+    steps: &mut Steps<L>,
+) -> Result<ReadInvoice, BindFault>
+    requires formed { first_fault table.now ≡ Ok tt }
+    requires picks { gathered.numbered.picks.items ≡ all_kept_placed (term_places (tree_nodes doc.now) table.now) }
+    requires currency { gathered.numbered.invoice_currency ≡ (currencies (tree_nodes doc.now) table.now).invoice }
+    requires indicators { gathered.others.indicators.items
+        ≡ all_kept (in_order (tree_nodes doc.now) (indicator_picks (tree_nodes doc.now) table.now)) }
+    requires passed_over { gathered.others.passed_over.items ≡ passed_nodes (tree_nodes doc.now) table.now }
+    ensures reads { Reads (terms_of (tree_nodes doc.now) table.now lists.now) result }
+    ensures memory { IfErr result IsWholeIfMemory }
+{
     doc.is_of_a_tree();
-    let mut gathered = match gather(alloc, doc, table, steps) {
-        Ok(gathered) => gathered,
-        Err(_) => return Err(out_of_memory(doc)),
-    };
+    let mut gathered = gathered;
     let picks = replace(&mut gathered.numbered.picks, Vec::new(alloc));
     let currency = gathered.numbered.invoice_currency.as_ref().map(Txt::as_str);
     let judged = judge(
@@ -65,6 +99,29 @@ pub fn read<L: Ledger>(
             invoice,
             passed_over,
         }),
+        Err(fault) => Err(fault),
+    }
+}
+
+/// The same as `read`, with the first of the document that is lost.
+fn read_whole<L: Ledger>(
+    alloc: Global,
+    doc: &Doc<'_>,
+    table: &Binding,
+    lists: &CodeLists,
+    steps: &mut Steps<L>,
+) -> Result<WholeRead, BindFault>
+    requires { first_fault table.now ≡ Ok tt }
+    ensures reads { ReadsWhole (terms_of (tree_nodes doc.now) table.now lists.now) (first_of (lost_nodes (tree_nodes doc.now) table.now)) result }
+    ensures lost_within { IfOk result (λ found. IfSome found.lost (λ n. n < length doc.now.nodes)) }
+    ensures memory { IfErr result IsWholeIfMemory }
+{
+    let (gathered, lost) = match gather_whole(alloc, doc, table, steps) {
+        Ok(found) => found,
+        Err(_) => return Err(out_of_memory(doc)),
+    };
+    match read_gathered(alloc, doc, table, lists, gathered, steps) {
+        Ok(read) => Ok(WholeRead { read, lost }),
         Err(fault) => Err(fault),
     }
 }
@@ -130,6 +187,61 @@ fn read_counted<L: Ledger>(
     };
     let mut steps = Steps::<L>::new(ledger);
     let answer = read(alloc, doc, table.as_ref(), lists, &mut steps);
+    drop(table);
+    answer
+}
+
+/// The same as `read_document`, with the first of the document that is lost, which is a node of it.
+pub fn read_document_whole(
+    alloc: Global,
+    doc: &Doc<'_>,
+    tables: &Tables,
+    lists: &CodeLists,
+) -> Result<WholeRead, BindFault>
+    requires { AreFormed tables.now }
+    ensures reads { ReadsWhole (invoice_by (rows_in tables.now) (tree_nodes doc.now) lists.now) (first_lost (rows_in tables.now) (tree_nodes doc.now)) result }
+    ensures lost_within { IfOk result (λ found. IfSome found.lost (λ n. n < length doc.now.nodes)) }
+    ensures within { IfErr result (λ fault. fault.kind ≢ kinds.Memory → fault.node < length doc.now.nodes) }
+    ensures memory { IfErr result IsWholeIfMemory }
+{
+    doc.is_of_a_tree();
+    match binding_of(doc) {
+        Ok(document_type) => read_whole_counted::<Brand>(
+            alloc,
+            doc,
+            tables,
+            document_type,
+            lists,
+            Blank::new(1),
+        ),
+        Err(fault) => Err(fault),
+    }
+}
+
+/// The same by one of the tables, with steps that nobody asks for.
+fn read_whole_counted<L: Ledger>(
+    alloc: Global,
+    doc: &Doc<'_>,
+    tables: &Tables,
+    document_type: DocumentType,
+    lists: &CodeLists,
+    ledger: Blank,
+) -> Result<WholeRead, BindFault>
+    requires tables { AreFormed tables.now }
+    requires name { ledger.name ≡ L.name }
+    requires parts { ledger.parts ≡ L.parts }
+    requires some { 0 < ledger.parts }
+    ensures reads { ReadsWhole (terms_of (tree_nodes doc.now) (rows_in tables.now document_type) lists.now)
+        (first_of (lost_nodes (tree_nodes doc.now) (rows_in tables.now document_type))) result }
+    ensures lost_within { IfOk result (λ found. IfSome found.lost (λ n. n < length doc.now.nodes)) }
+    ensures memory { IfErr result IsWholeIfMemory }
+{
+    let table = match tables.table(alloc, document_type) {
+        Ok(table) => table,
+        Err(_) => return Err(out_of_memory(doc)),
+    };
+    let mut steps = Steps::<L>::new(ledger);
+    let answer = read_whole(alloc, doc, table.as_ref(), lists, &mut steps);
     drop(table);
     answer
 }

@@ -34,7 +34,7 @@ use Rattle.bind_walk.proofs.StrollLemmas.{strolled-sum}
 use Rattle.bind_walk.proofs.PathLemmas.{is_for, rows-pick}
 use Rattle.bind_walk.proofs.OrderLemmas.{IsNested, From, NotAbove, order-exact, order-total, all-before, all-inside, rows-up, in_order-up, in_order-counts}
 
-from-places : (n : ℕ) (nodes : List Node) → ((k : ℕ) → k < length nodes → (get_or nodes k none).number ≡ n + k) → From n nodes
+pub from-places : (n : ℕ) (nodes : List Node) → ((k : ℕ) → k < length nodes → (get_or nodes k none).number ≡ n + k) → From n nodes
 from-places n [] h = tt
 from-places n (node ∷ nodes) h = (
   h 0 (omega arith) ∙ (let e : n + 0 ≡ n = omega arith in e),

@@ -8,6 +8,8 @@ pub mod OrderLemmas
 pub mod LineLemmas
 pub mod FindLemmas
 pub mod PassLemmas
+pub mod PlaceLemmas
+pub mod LossLemmas
 pub mod ChainLemmas
 pub mod TrimLemmas
 pub mod LoopLemmas

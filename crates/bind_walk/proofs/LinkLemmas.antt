@@ -71,7 +71,7 @@ map-agree f g (n ∷ ns) h = ap (λ xs. xs ++ flat_map f ns) h.0 ∙ ap (λ xs. 
 abbrev pub if_both : {X : Type 0} → (ℕ → Bool) → (ℕ → Bool) → (ℕ → List X) → ℕ → List X
 if_both has is f m = elim (has m && is m) [ true ↦ f m | false ↦ [] ]
 
-flat-filter : {X : Type 0} (has is : ℕ → Bool) (f : ℕ → List X) (ns : List ℕ) → flat_map (if_both has is f) ns ≡ flat_map f (filter is (filter has ns))
+pub flat-filter : {X : Type 0} (has is : ℕ → Bool) (f : ℕ → List X) (ns : List ℕ) → flat_map (if_both has is f) ns ≡ flat_map f (filter is (filter has ns))
 flat-filter {X} has is f [] = refl
 flat-filter {X} has is f (n ∷ ns) = at (has n) (is n) refl (flat-filter has is f ns)
   where
@@ -176,12 +176,12 @@ module _ (d : Document) (read : IsRead d) where
       sym (read.named (record { uri = uri_of name.namespace; local = name.local }) n within)
       ∙ sym (named-is (uri_of name.namespace) name.local (tree_node (tree_nodes d) n))
 
-  children-are : (name : ElementName) (n : ℕ) → children_named (tree_nodes d) name n ≡ filter (is_found (found_element d name)) (children d n)
+  pub children-are : (name : ElementName) (n : ℕ) → children_named (tree_nodes d) name n ≡ filter (is_found (found_element d name)) (children d n)
   children-are name n = named-filter (is_child n) (has_element_name name) (is_found (found_element d name)) (tree_nodes d)
       (every-weaker (IsMember d) (λ (node : Node). is_found (found_element d name) node.number ≡ has_element_name name node)
       (λ node m. found-is (uri_of name.namespace) name.local node m) (tree_nodes d) members)
 
-  attributes-are : (local : List ℕ) (n : ℕ) → attributes_named (tree_nodes d) local n ≡ filter (is_found (local_name local)) (attributes d n)
+  pub attributes-are : (local : List ℕ) (n : ℕ) → attributes_named (tree_nodes d) local n ≡ filter (is_found (local_name local)) (attributes d n)
   attributes-are local n = named-filter (is_attribute_of n) (has_plain_name local) (is_found (local_name local)) (tree_nodes d)
       (every-weaker (IsMember d) (λ (node : Node). is_found (local_name local) node.number ≡ has_plain_name local node) (λ node m. found-is [] local node m)
       (tree_nodes d) members)
@@ -248,7 +248,7 @@ module _ (d : Document) (read : IsRead d) where
       ap (same_flag (is_positive guard.test)) (below-is (map (found_element d) guard.place.path) guard.place.leaf guard.test guard.place.path n)
       ∙ passes-is guard.test (strings guard.place.leaf (elements_below (tree_nodes d) guard.place.path n))
 
-  guards-are : (guards : List Guard) (n : ℕ) → list_all (found.is_met d n) (map (found_guard d) guards) ≡ are_met (tree_nodes d) guards n
+  pub guards-are : (guards : List Guard) (n : ℕ) → list_all (found.is_met d n) (map (found_guard d) guards) ≡ are_met (tree_nodes d) guards n
   guards-are [] n = refl
   guards-are (guard ∷ guards) n =
       ap (λ b. b && list_all (found.is_met d n) (map (found_guard d) guards)) (guard-is guard n)

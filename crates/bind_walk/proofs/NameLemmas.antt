@@ -1,6 +1,6 @@
 -- The names of namespaces are ASCII, so their bytes are their characters.
 use Rattle.std.proofs.Common.{◌≡◌, ℕ, true, List, [], ◌∷◌, Option, refl, ap, ◌∙◌}
-use Rattle.std.specs.Prelude.{nat_lt}
+use Rattle.std.specs.Prelude.{codes, nat_lt}
 use Rattle.std.specs.List.{list_all}
 use Rattle.std.specs.Str.{chars, IsAscii}
 use Rattle.std.proofs.lemmas.Bool.{ltb-true, and_parts}
@@ -32,6 +32,9 @@ all_ascii spaces.CiiQualified = refl
 
 pub uri-chars : (space : Namespace) → chars (uri_of space) ≡ uri_of space
 uri-chars space = chars-IsAscii (uri_of space) (ascii (uri_of space) (all_ascii space))
+
+pub schema-chars : chars (codes "http://www.w3.org/2001/XMLSchema-instance") ≡ codes "http://www.w3.org/2001/XMLSchema-instance"
+schema-chars = chars-IsAscii (codes "http://www.w3.org/2001/XMLSchema-instance") (ascii (codes "http://www.w3.org/2001/XMLSchema-instance") refl)
 
 pub element-found : (d : Document) (name : ElementName) (uri local : List ℕ) (names : List Name) (id : Option ℕ) → uri ≡ uri_of name.namespace
     → chars local ≡ name.local → names ≡ d.names

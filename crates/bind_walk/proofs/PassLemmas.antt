@@ -24,12 +24,14 @@ use Rattle.bind_meaning.specs.Faults.{passed_nodes}
 use Rattle.bind_meaning.specs.Terms.{names_row, is_on_a_way, is_passed_over, turned, without_first, way_to}
 use Rattle.bind_walk.specs.Chains.{number}
 use Rattle.bind_walk.specs.declared.lines.FoundLine.{FoundLine}
+use Rattle.bind_walk.specs.declared.passed.Arrived.{Arrived}
 use Rattle.bind_walk.specs.declared.passed.Opened.{Opened}
 use Rattle.bind_walk.specs.declared.passed.Span.{Span}
-use Rattle.bind_walk.specs.Lines.{lined}
+use Rattle.bind_walk.specs.Lines.{lined, own_place}
 use Rattle.bind_walk.specs.Found.{found_element, is_same_number}
 use Rattle.bind_walk.specs.Walks.{line_of}
 use Rattle.bind_walk.proofs.NumberLemmas.{number-says, none-found}
+use Rattle.bind_walk.specs.Passing.{Inside, an_inside, no_inside, IsInside, place_in, place_before, gate}
 use Rattle.bind_walk.specs.Passing.{inside_named, insides, led, some_plan, path_of, state, is_passed, roots_of, IsSpan, IsSomeSpan, SpansOf, AreSpans}
 use Rattle.bind_walk.specs.Passing.{AddsNamed, part, LeadsInside, IsPart, no_part, OnWay, Stands, IsAround, IsNear, IsSomeNear, StandsAt, IsBefore}
 use Rattle.bind_walk.specs.Passing.{IsSomeBefore, IsReached, some_of, is_left, first_spans, Begins, one_if, LeadsThrough}
@@ -138,33 +140,36 @@ module _ (d : Document) (same : (s t : Step) → same_step s t ≡ true → s �
 
   -- ---- sets of lines
 
-  one-leads : (n : ℕ) (plan : Plan) (way : List ℕ) → list_any (λ p. leads p way) (inside_named d n plan) ≡ leads plan (n ∷ way)
+  abbrev leads-in : List ℕ → Inside → Bool
+  leads-in way x = leads x.plan way
+
+  one-leads : (n : ℕ) (plan : Plan) (way : List ℕ) → list_any (leads-in way) (inside_named d n plan) ≡ leads plan (n ∷ way)
   one-leads n nothing way = refl
   one-leads n (a_line s cells inside rest) way = at (named s n) (one-leads n rest way)
     where
-      at : (b : Bool) → list_any (λ p. leads p way) (inside_named d n rest) ≡ leads rest (n ∷ way)
-          → list_any (λ p. leads p way) ((elim b as (λ _. List Plan) [ true ↦ inside ∷ [] | false ↦ [] ]) ++ inside_named d n rest)
+      at : (b : Bool) → list_any (leads-in way) (inside_named d n rest) ≡ leads rest (n ∷ way)
+          → list_any (leads-in way) ((elim b as (λ _. List Inside) [ true ↦ an_inside s cells inside ∷ [] | false ↦ [] ]) ++ inside_named d n rest)
           ≡ ((b && leads inside way) || leads rest (n ∷ way))
       at true e = ap (λ b. leads inside way || b) e
       at false e = e
 
-  all-lead : (n : ℕ) (plans : List Plan) (way : List ℕ) → list_any (λ p. leads p way) (insides d n plans) ≡ list_any (λ p. leads p (n ∷ way)) plans
+  all-lead : (n : ℕ) (plans : List Inside) (way : List ℕ) → list_any (leads-in way) (insides d n plans) ≡ list_any (leads-in (n ∷ way)) plans
   all-lead n [] way = refl
-  all-lead n (plan ∷ plans) way =
-      list_any-append (λ p. leads p way) (inside_named d n plan) (insides d n plans)
-      ∙ (ap (λ b. b || list_any (λ p. leads p way) (insides d n plans)) (one-leads n plan way) ∙ ap (λ b. leads plan (n ∷ way) || b) (all-lead n plans way))
+  all-lead n (x ∷ xs) way =
+      list_any-append (leads-in way) (inside_named d n x.plan) (insides d n xs)
+      ∙ (ap (λ b. b || list_any (leads-in way) (insides d n xs)) (one-leads n x.plan way) ∙ ap (λ b. leads x.plan (n ∷ way) || b) (all-lead n xs way))
 
-  some-is : (plans : List Plan) → some_plan plans ≡ list_any (λ p. leads p []) plans
+  some-is : (plans : List Inside) → some_plan plans ≡ list_any (leads-in []) plans
   some-is [] = refl
-  some-is (plan ∷ plans) = ap (λ b. b || list_any (λ p. leads p []) plans) (sym (leads-nil plan))
+  some-is (x ∷ xs) = ap (λ b. b || list_any (leads-in []) xs) (sym (leads-nil x.plan))
 
-  led-is : (plans : List Plan) (way : List ℕ) → some_plan (led d plans way) ≡ list_any (λ p. leads p way) plans
+  led-is : (plans : List Inside) (way : List ℕ) → some_plan (led d plans way) ≡ list_any (leads-in way) plans
   led-is plans [] = some-is plans
   led-is plans (n ∷ way) = led-is (insides d n plans) way ∙ all-lead n plans way
 
-  on-is : (rows : List Row) (way : List ℕ) → some_plan (led d (roots_of rows) way) ≡ is_on_a_way (tree_nodes d) rows way
+  pub on-is : (rows : List Row) (way : List ℕ) → some_plan (led d (roots_of rows) way) ≡ is_on_a_way (tree_nodes d) rows way
   on-is [] way = led-is [] way
-  on-is (row ∷ rows) way = led-is (plan_of (row ∷ rows) ∷ []) way ∙ (sym (or-false (leads (plan_of (row ∷ rows)) way)) ∙ plan-leads row rows way)
+  on-is (row ∷ rows) way = led-is (roots_of (row ∷ rows)) way ∙ (sym (or-false (leads (plan_of (row ∷ rows)) way)) ∙ plan-leads row rows way)
 
   pub passed-is : (rows : List Row) (node : Node) → is_passed d (roots_of rows) node ≡ is_passed_over (tree_nodes d) rows node
   passed-is rows node =
@@ -194,16 +199,16 @@ way-more m p above =
     ∙ without-append (turned (p ∷ []) above) m (turned-long (p ∷ []) above (omega arith))
 
 module _ (d : Document) where
-  led-more : (plans : List Plan) (way : List ℕ) (m : ℕ) → led d plans (way ++ m ∷ []) ≡ insides d m (led d plans way)
+  led-more : (plans : List Inside) (way : List ℕ) (m : ℕ) → led d plans (way ++ m ∷ []) ≡ insides d m (led d plans way)
   led-more plans [] m = refl
   led-more plans (n ∷ way) m = led-more (insides d n plans) way m
 
-  pub state-more : (roots : List Plan) (m p : ℕ) → (tree_node (tree_nodes d) m).above ≡ path_of d p → state d roots m ≡ insides d m (state d roots p)
+  pub state-more : (roots : List Inside) (m p : ℕ) → (tree_node (tree_nodes d) m).above ≡ path_of d p → state d roots m ≡ insides d m (state d roots p)
   state-more roots m p e =
       ap (λ above. led d roots (way_to (m ∷ above))) e
       ∙ (ap (led d roots) (way-more m p (tree_node (tree_nodes d) p).above) ∙ led-more roots (way_to (path_of d p)) m)
 
-  pub state-begin : (roots : List Plan) → (tree_node (tree_nodes d) 0).above ≡ [] → state d roots 0 ≡ roots
+  pub state-begin : (roots : List Inside) → (tree_node (tree_nodes d) 0).above ≡ [] → state d roots 0 ≡ roots
   state-begin roots e = ap (λ above. led d roots (way_to (0 ∷ above))) e
 
   -- ---- spans
@@ -217,6 +222,7 @@ module _ (d : Document) where
     pub plan_is : plan ≡ a_line step cells within rest
     pub line_is : line ≡ line_of d step cells within
     pub inside_span : IsSpan d lines (at + 1) (at + (1 + line.size)) within
+    pub placed : place_before lines (at + 1) ≡ own_place step cells within
     pub rest_span : IsSpan d lines (at + (1 + line.size)) to rest
 
   pub line-at : (lines : List FoundLine) (at to : ℕ) (line : FoundLine) (plan : Plan) → IsSpan d lines at to plan → at < to → line ≡ get_or lines at line
@@ -231,6 +237,7 @@ module _ (d : Document) where
       let begins = span.begins in
       let ends = span.ends in
       let both = length-append (lined d inside) (lined d rest) in
+      let whole = ap length span.is ∙ length-append span.front (here ∷ behind) in
       record {
         step = s;
         cells = cells;
@@ -246,6 +253,9 @@ module _ (d : Document) where
           begins = length-append span.front (here ∷ []) ∙ ap (λ n. n + 1) begins;
           ends = omega (arith, size);
         };
+        placed = ap (λ b. gate b (place_in (slice_get lines (at + 1 - 1)))) (lt-ltb 0 (at + 1) (omega arith))
+            ∙ (ap (λ k. place_in (slice_get lines k)) (let e : at + 1 - 1 ≡ at = omega arith in e)
+            ∙ ap place_in (slice_get-get_or lines at line (omega (arith, whole, below, begins)) ∙ ap Some (sym read ∙ is)));
         rest_span = record {
           front = span.front ++ (here ∷ lined d inside);
           back = span.back;
@@ -264,8 +274,8 @@ module _ (d : Document) where
       let e = span.ends in
       (omega arith, omega (arith, a, b, c, e))
 
-  pub spans-push : (lines : List FoundLine) (spans : List Span) (plans : List Plan) (span : Span) (plan : Plan) → SpansOf d lines spans plans
-      → IsSpan d lines span.from span.to plan → SpansOf d lines (spans ++ span ∷ []) (plans ++ plan ∷ [])
+  pub spans-push : (lines : List FoundLine) (spans : List Span) (plans : List Inside) (span : Span) (plan : Inside) → SpansOf d lines spans plans
+      → IsInside d lines span plan → SpansOf d lines (spans ++ span ∷ []) (plans ++ plan ∷ [])
   spans-push lines [] [] span plan h k = (k, tt)
   spans-push lines [] (p ∷ plans) span plan h k = absurd h
   spans-push lines (s ∷ spans) [] span plan h k = absurd h
@@ -274,8 +284,8 @@ module _ (d : Document) where
   -- of the lines of a span those from a place on are left
   pub record Adding (lines : List FoundLine) (from to m : ℕ) (old : List Span) (at : ℕ) (new : List Span) : Type 0 where
     pub some : IsSomeSpan d lines at to
-    pub all : (plan : Plan) (plans : List Plan) → IsSpan d lines from to plan → SpansOf d lines old plans
-        → (rest : Plan) × (dones : List Plan) × IsSpan d lines at to rest × SpansOf d lines new dones
+    pub all : (plan : Plan) (plans : List Inside) → IsSpan d lines from to plan → SpansOf d lines old plans
+        → (rest : Plan) × (dones : List Inside) × IsSpan d lines at to rest × SpansOf d lines new dones
         × ((dones ++ inside_named d m rest) ≡ (plans ++ inside_named d m plan))
 
   pub adding_begin : (lines : List FoundLine) (from to m : ℕ) (old : List Span) → IsSomeSpan d lines from to → Adding lines from to m old from old
@@ -303,7 +313,7 @@ module _ (d : Document) where
             let k = line-at lines at to line w.0 w.2 below read in
             let miss : has_element_name k.step.name (tree_node (tree_nodes d) m) ≡ false = says k.step k.cells k.within k.line_is ∙ no_hit in
             let e : inside_named d m w.0 ≡ inside_named d m k.rest =
-            ap (inside_named d m) k.plan_is ∙ ap (λ b. (elim b as (λ _. List Plan) [ true ↦ k.within ∷ [] | false ↦ [] ]) ++ inside_named d m k.rest) miss in
+            ap (inside_named d m) k.plan_is ∙ ap (λ b. (elim b as (λ _. List Inside) [ true ↦ an_inside k.step k.cells k.within ∷ [] | false ↦ [] ]) ++ inside_named d m k.rest) miss in
             (k.rest, w.1, k.rest_span, w.3, ap (λ xs. w.1 ++ xs) (sym e) ∙ w.4);
       }
 
@@ -321,15 +331,17 @@ module _ (d : Document) where
             let w = a.all plan plans whole of in
             let k = line-at lines at to line w.0 w.2 below read in
             let named_is : has_element_name k.step.name (tree_node (tree_nodes d) m) ≡ true = says k.step k.cells k.within k.line_is ∙ hit in
-            let e : inside_named d m w.0 ≡ k.within ∷ inside_named d m k.rest =
-            ap (inside_named d m) k.plan_is ∙ ap (λ b. (elim b as (λ _. List Plan) [ true ↦ k.within ∷ [] | false ↦ [] ]) ++ inside_named d m k.rest)
+            let found : Inside = an_inside k.step k.cells k.within in
+            let e : inside_named d m w.0 ≡ found ∷ inside_named d m k.rest =
+            ap (inside_named d m) k.plan_is ∙ ap (λ b. (elim b as (λ _. List Inside) [ true ↦ an_inside k.step k.cells k.within ∷ [] | false ↦ [] ]) ++ inside_named d m k.rest)
             named_is in
-            let here : IsSpan d lines span.from span.to k.within = subst (λ (s : Span). IsSpan d lines s.from s.to k.within) (sym span_is) k.inside_span in (
+            let here : IsInside d lines span found =
+            subst (λ (s : Span). IsInside d lines s found) (sym span_is) (record { is = k.inside_span; placed = k.placed }) in (
               k.rest,
-              w.1 ++ k.within ∷ [],
+              w.1 ++ found ∷ [],
               k.rest_span,
-              subst (λ ss. SpansOf d lines ss (w.1 ++ k.within ∷ [])) (sym after_is) (spans-push lines new w.1 span k.within w.3 here),
-              append_assoc w.1 (k.within ∷ []) (inside_named d m k.rest) ∙ (ap (λ xs. w.1 ++ xs) (sym e) ∙ w.4),
+              subst (λ ss. SpansOf d lines ss (w.1 ++ found ∷ [])) (sym after_is) (spans-push lines new w.1 span found w.3 here),
+              append_assoc w.1 (found ∷ []) (inside_named d m k.rest) ∙ (ap (λ xs. w.1 ++ xs) (sym e) ∙ w.4),
             );
       }
 
@@ -353,14 +365,14 @@ module _ (d : Document) where
 
   -- ---- several spans
 
-  pub spans-long : (lines : List FoundLine) (spans : List Span) (plans : List Plan) → SpansOf d lines spans plans → length spans ≡ length plans
+  pub spans-long : (lines : List FoundLine) (spans : List Span) (plans : List Inside) → SpansOf d lines spans plans → length spans ≡ length plans
   spans-long lines [] [] h = refl
   spans-long lines [] (p ∷ plans) h = absurd h
   spans-long lines (s ∷ spans) [] h = absurd h
   spans-long lines (s ∷ spans) (p ∷ plans) h = let e = spans-long lines spans plans h.1 in omega (arith, e)
 
-  pub span-at : (lines : List FoundLine) (spans : List Span) (plans : List Plan) (k : ℕ) (x : Span) → SpansOf d lines spans plans → k < length spans
-      → IsSpan d lines (get_or spans k x).from (get_or spans k x).to (get_or plans k nothing)
+  pub span-at : (lines : List FoundLine) (spans : List Span) (plans : List Inside) (k : ℕ) (x : Span) → SpansOf d lines spans plans → k < length spans
+      → IsInside d lines (get_or spans k x) (get_or plans k no_inside)
   span-at lines [] plans k x h below = absurd (omega (arith, below))
   span-at lines (s ∷ spans) [] k x h below = absurd h
   span-at lines (s ∷ spans) (p ∷ plans) zero x h below = h.0
@@ -370,8 +382,8 @@ module _ (d : Document) where
   pub record Naming (lines : List FoundLine) (around : Span) (m : ℕ) (old : List Span) (at : ℕ) (new : List Span) : Type 0 where
     pub some : AreSpans d lines new
     pub longer : length old ≤ length new
-    pub all : (plans : List Plan) → SpansOf d lines old plans
-        → (dones : List Plan) × SpansOf d lines new (plans ++ dones)
+    pub all : (plans : List Inside) → SpansOf d lines old plans
+        → (dones : List Inside) × SpansOf d lines new (plans ++ dones)
         × ((dones ++ insides d m (drop at (take around.to plans))) ≡ insides d m (part plans around))
 
   pub naming_begin : (lines : List FoundLine) (around : Span) (m : ℕ) (old : List Span) → AreSpans d lines old → Naming lines around m old around.from old
@@ -387,9 +399,9 @@ module _ (d : Document) where
 
     pub naming_some : (span : Span) → at < around.to → around.to ≤ length old → span ≡ get_or new at no_part → IsSomeSpan d lines span.from span.to
     naming_some span below within read = record {
-      plan = get_or n.some.plans at nothing;
-      span = subst (λ (s : Span). IsSpan d lines s.from s.to (get_or n.some.plans at nothing)) (sym read)
-          (span-at lines new n.some.plans at no_part n.some.are (naming_fits below within));
+      plan = (get_or n.some.plans at no_inside).plan;
+      span = subst (λ (s : Span). IsSpan d lines s.from s.to (get_or n.some.plans at no_inside).plan) (sym read)
+          (span-at lines new n.some.plans at no_part n.some.are (naming_fits below within)).is;
     }
 
     pub naming_more : (span : Span) (after : List Span) → at < around.to → around.to ≤ length old → span ≡ get_or new at no_part
@@ -397,29 +409,31 @@ module _ (d : Document) where
         → Naming lines around m old (at + 1) after
     naming_more span after below within read adds =
         let fits : at < length new = naming_fits below within in
-        let first : Plan = get_or n.some.plans at nothing in
-        let placed : (plans : List Plan) → SpansOf d lines new plans → IsSpan d lines span.from span.to (get_or plans at nothing) =
-        λ plans of. subst (λ (s : Span). IsSpan d lines s.from s.to (get_or plans at nothing)) (sym read) (span-at lines new plans at no_part of fits) in
-        let others = adds first n.some.plans (placed n.some.plans n.some.are) n.some.are in
+        let first : Inside = get_or n.some.plans at no_inside in
+        let placed : (plans : List Inside) → SpansOf d lines new plans → IsSpan d lines span.from span.to (get_or plans at no_inside).plan =
+        λ plans of. subst (λ (s : Span). IsSpan d lines s.from s.to (get_or plans at no_inside).plan) (sym read)
+        (span-at lines new plans at no_part of fits).is in
+        let others = adds first.plan n.some.plans (placed n.some.plans n.some.are) n.some.are in
         let before = spans-long lines new n.some.plans n.some.are in
-        let behind = spans-long lines after (n.some.plans ++ inside_named d m first) others in
-        let both = length-append n.some.plans (inside_named d m first) in
+        let behind = spans-long lines after (n.some.plans ++ inside_named d m first.plan) others in
+        let both = length-append n.some.plans (inside_named d m first.plan) in
         record {
-          some = record { plans = n.some.plans ++ inside_named d m first; are = others };
+          some = record { plans = n.some.plans ++ inside_named d m first.plan; are = others };
           longer = omega (arith, n.longer, before, behind, both);
           all = λ plans of.
               let w = n.all plans of in
               let long : length old ≡ length plans = spans-long lines old plans of in
-              let plan : Plan = get_or plans at nothing in
-              let here : get_or (plans ++ w.0) at nothing ≡ plan = get_or_append_left plans w.0 nothing at (omega (arith, below, within, long)) in
-              let spanned : IsSpan d lines span.from span.to plan = subst (IsSpan d lines span.from span.to) here (placed (plans ++ w.0) w.1) in
+              let x : Inside = get_or plans at no_inside in
+              let here : get_or (plans ++ w.0) at no_inside ≡ x = get_or_append_left plans w.0 no_inside at (omega (arith, below, within, long)) in
+              let spanned : IsSpan d lines span.from span.to x.plan =
+              subst (λ (y : Inside). IsSpan d lines span.from span.to y.plan) here (placed (plans ++ w.0) w.1) in
               let taken : length (take around.to plans) ≡ around.to = length-take-le around.to plans (omega (arith, within, long)) in
-              let next : drop at (take around.to plans) ≡ plan ∷ drop (at + 1) (take around.to plans) =
-              drop_more (take around.to plans) at nothing (omega (arith, below, taken))
-              ∙ ap (λ p. p ∷ drop (at + 1) (take around.to plans)) (get_or-take around.to plans at nothing below) in (
-                w.0 ++ inside_named d m plan,
-                subst (SpansOf d lines after) (append_assoc plans w.0 (inside_named d m plan)) (adds plan (plans ++ w.0) spanned w.1),
-                append_assoc w.0 (inside_named d m plan) (insides d m (drop (at + 1) (take around.to plans)))
+              let next : drop at (take around.to plans) ≡ x ∷ drop (at + 1) (take around.to plans) =
+              drop_more (take around.to plans) at no_inside (omega (arith, below, taken))
+              ∙ ap (λ p. p ∷ drop (at + 1) (take around.to plans)) (get_or-take around.to plans at no_inside below) in (
+                w.0 ++ inside_named d m x.plan,
+                subst (SpansOf d lines after) (append_assoc plans w.0 (inside_named d m x.plan)) (adds x.plan (plans ++ w.0) spanned w.1),
+                append_assoc w.0 (inside_named d m x.plan) (insides d m (drop (at + 1) (take around.to plans)))
                     ∙ (ap (λ ps. w.0 ++ insides d m ps) (sym next) ∙ w.2),
               );
         }
@@ -436,14 +450,14 @@ module _ (d : Document) where
   nameless : LeadsThrough d → (m : ℕ) → m < length d.nodes → (node_at d.nodes m).name ≡ None → (plan : Plan) → inside_named d m plan ≡ []
   nameless through m within none nothing = refl
   nameless through m within none (a_line s cells inside rest) =
-      ap (λ b. (elim b as (λ _. List Plan) [ true ↦ inside ∷ [] | false ↦ [] ]) ++ inside_named d m rest)
+      ap (λ b. (elim b as (λ _. List Inside) [ true ↦ an_inside s cells inside ∷ [] | false ↦ [] ]) ++ inside_named d m rest)
       (sym (through.named s.name m within) ∙ none-found d (found_element d s.name) m none)
       ∙ nameless through m within none rest
 
-  all-nameless : LeadsThrough d → (m : ℕ) → m < length d.nodes → (node_at d.nodes m).name ≡ None → (plans : List Plan) → insides d m plans ≡ []
+  all-nameless : LeadsThrough d → (m : ℕ) → m < length d.nodes → (node_at d.nodes m).name ≡ None → (plans : List Inside) → insides d m plans ≡ []
   all-nameless through m within none [] = refl
-  all-nameless through m within none (plan ∷ plans) = ap (λ xs. xs ++ insides d m plans) (nameless through m within none plan)
-      ∙ all-nameless through m within none plans
+  all-nameless through m within none (x ∷ xs) = ap (λ ys. ys ++ insides d m xs) (nameless through m within none x.plan)
+      ∙ all-nameless through m within none xs
 
   pub leads_nowhere : LeadsThrough d → (lines : List FoundLine) (around : Span) (m : ℕ) (spans : List Span) → m < length d.nodes
       → None ≡ (node_at d.nodes m).name → LeadsInside d lines around m spans spans
@@ -452,21 +466,21 @@ module _ (d : Document) where
 
 -- ---- parts
 
-pub part-new : (plans more : List Plan) (p : Span) → p.from ≡ length plans → p.to ≡ length (plans ++ more) → IsPart (plans ++ more) p more
+pub part-new : (plans more : List Inside) (p : Span) → p.from ≡ length plans → p.to ≡ length (plans ++ more) → IsPart (plans ++ more) p more
 part-new plans more p from_is to_is = record {
   ordered = let e = length-append plans more in omega (arith, from_is, to_is, e);
   within = omega (arith, to_is);
   is = ap (drop p.from) (take_all p.to (plans ++ more) (omega (arith, to_is))) ∙ (ap (λ k. drop k (plans ++ more)) from_is ∙ drop-append_seam plans more);
 }
 
-pub some-part : (plans : List Plan) (p : Span) (own : List Plan) → IsPart plans p own → some_of p ≡ some_plan own
+pub some-part : (plans : List Inside) (p : Span) (own : List Inside) → IsPart plans p own → some_of p ≡ some_plan own
 some-part plans p own s =
     let taken = length-take-le p.to plans s.within in
     let dropped = length-drop p.from (take p.to plans) in
     let whole = ap length s.is in
     at own (omega (arith, taken, dropped, whole, s.ordered))
   where
-    at : (ps : List Plan) → p.from + length ps ≡ p.to → some_of p ≡ some_plan ps
+    at : (ps : List Inside) → p.from + length ps ≡ p.to → some_of p ≡ some_plan ps
     at [] e = le-ltb p.from p.to (omega (arith, e))
     at (plan ∷ ps) e = lt-ltb p.from p.to (omega (arith, e))
 
@@ -483,7 +497,7 @@ last-is around way own last is read =
     ∙ (ap (λ k. get_or way k own) place ∙ (ap (λ ws. get_or ws (length around) own) is ∙ get_or-append_seam around own [] own))
 
 module _ (d : Document) (lines : List FoundLine) where
-  spans-take : (spans : List Span) (plans : List Plan) (k : ℕ) → SpansOf d lines spans plans → SpansOf d lines (take k spans) (take k plans)
+  spans-take : (spans : List Span) (plans : List Inside) (k : ℕ) → SpansOf d lines spans plans → SpansOf d lines (take k spans) (take k plans)
   spans-take spans plans zero h = tt
   spans-take [] [] (suc k) h = tt
   spans-take [] (p ∷ plans) (suc k) h = absurd h
@@ -502,7 +516,7 @@ module _ (d : Document) (lines : List FoundLine) where
       none_some : (o : Option Opened) (x : Opened) → o ≡ None → o ≡ Some x → ⊥
       none_some o x e f = cc
 
-  pub near_here : (roots : List Plan) (spans : List Span) (way : List Opened) (p : ℕ) (last : Opened) (own : Span) → IsNear d lines roots spans way p
+  pub near_here : (roots : List Inside) (spans : List Span) (way : List Opened) (p : ℕ) (last : Opened) (own : Span) → IsNear d lines roots spans way p
       → Some last ≡ slice_get way (length way - 1) → last.node ≡ p → own ≡ record { from = last.from; to = length spans }
       → StandsAt d lines roots spans way p own
   near_here roots spans way p last own n read here own_is =
@@ -524,7 +538,7 @@ module _ (d : Document) (lines : List FoundLine) where
     | inr i ↦ inr i
   ]
 
-  near-out : LeadsThrough d → (roots : List Plan) (spans cut : List Span) (way fewer : List Opened) (p : ℕ) (last : Opened)
+  near-out : LeadsThrough d → (roots : List Inside) (spans cut : List Span) (way fewer : List Opened) (p : ℕ) (last : Opened)
       → IsNear d lines roots spans way p → Some last ≡ slice_get way (length way - 1) → (last.node ≡ p → ⊥)
       → fewer ≡ take (length way - 1) way → cut ≡ take last.from spans → IsNear d lines roots cut fewer p
   near-out through roots spans cut way fewer p last n read other fewer_is cut_is =
@@ -567,7 +581,7 @@ module _ (d : Document) (lines : List FoundLine) where
   -- What was near at first is near still.
   pub record Coming (p : ℕ) (spans : List Span) (way : List Opened) (left : List Span) (fewer : List Opened) : Type 0 where
     pub some : IsSomeNear d lines left fewer p
-    pub all : (roots : List Plan) → IsNear d lines roots spans way p → IsNear d lines roots left fewer p
+    pub all : (roots : List Inside) → IsNear d lines roots spans way p → IsNear d lines roots left fewer p
 
   pub coming_begin : (p : ℕ) (spans : List Span) (way : List Opened) → IsSomeNear d lines spans way p → Coming p spans way spans way
   coming_begin p spans way some = record { some = some; all = λ roots near. near }
@@ -583,7 +597,7 @@ module _ (d : Document) (lines : List FoundLine) where
 
   -- ---- from a node to the next
 
-  pub near_before : LeadsThrough d → (roots : List Plan) (spans : List Span) (way : List Opened) (m p : ℕ) → m < length d.nodes
+  pub near_before : LeadsThrough d → (roots : List Inside) (spans : List Span) (way : List Opened) (m p : ℕ) → m < length d.nodes
       → parent (tree_nodes d) m ≡ Some p → IsBefore d lines roots spans way m → IsNear d lines roots spans way p
   near_before through roots spans way m p within parent_is b = record {
     at = b.last;
@@ -596,26 +610,26 @@ module _ (d : Document) (lines : List FoundLine) where
   some_near through spans way m p within parent_is s =
       record { roots = s.roots; near = near_before through s.roots spans way m p within parent_is s.before }
 
-  pub stands_fit : (roots : List Plan) (spans : List Span) (way : List Opened) (n : ℕ) (own : Span) → StandsAt d lines roots spans way n own
+  pub stands_fit : (roots : List Inside) (spans : List Span) (way : List Opened) (n : ℕ) (own : Span) → StandsAt d lines roots spans way n own
       → own.to ≤ length spans
   stands_fit roots spans way n own s = let e = s.ends in omega (arith, e)
 
-  pub stands_spans : (roots : List Plan) (spans : List Span) (way : List Opened) (n : ℕ) (own : Span) → StandsAt d lines roots spans way n own
+  pub stands_spans : (roots : List Inside) (spans : List Span) (way : List Opened) (n : ℕ) (own : Span) → StandsAt d lines roots spans way n own
       → AreSpans d lines spans
   stands_spans roots spans way n own s = record { plans = s.stands.plans; are = s.stands.are }
 
-  pub reached_more : LeadsThrough d → (roots : List Plan) (m p : ℕ) (spans : List Span) (way : List Opened) (around inside : Span) (more_spans : List Span)
-      (more_way : List Opened) (passed : Bool)
+  pub reached_more : LeadsThrough d → (roots : List Inside) (m p : ℕ) (spans : List Span) (way : List Opened) (around inside : Span) (more_spans : List Span)
+      (more_way : List Opened)
       → m < length d.nodes → StandsAt d lines roots spans way p around → parent (tree_nodes d) m ≡ Some p
       → inside.from ≡ length spans → inside.to ≡ length more_spans → LeadsInside d lines around m spans more_spans
       → more_way ≡ way ++ record { node = m; from = inside.from } ∷ []
-      → passed ≡ (is_element_kind (node_at d.nodes m).kind && is_left around inside) → IsReached d lines roots more_spans more_way m passed
-  reached_more through roots m p spans way around inside more_spans more_way passed within s parent_is from_is to_is leads way_is passed_is =
-      let plans : List Plan = s.stands.plans in
+      → IsReached d lines roots more_spans more_way m (record { around = around; inside = inside })
+  reached_more through roots m p spans way around inside more_spans more_way within s parent_is from_is to_is leads way_is =
+      let plans : List Inside = s.stands.plans in
       let above = through.inside_one m p within parent_is in
       let own : IsPart plans around (state d roots p) = s.is in
       let next : state d roots m ≡ insides d m (state d roots p) = state-more d roots m p above in
-      let more : List Plan = insides d m (part plans around) in
+      let more : List Inside = insides d m (part plans around) in
       let are : SpansOf d lines more_spans (plans ++ more) = leads plans s.stands.are in
       let is : more ≡ state d roots m = ap (insides d m) own.is ∙ sym next in
       let from : inside.from ≡ length plans = from_is ∙ spans-long d lines spans plans s.stands.are in
@@ -624,9 +638,6 @@ module _ (d : Document) (lines : List FoundLine) where
       let node = tree_node (tree_nodes d) m in
       let on_around : some_of around ≡ some_plan (led d roots (way_to node.above)) =
       some-part plans around (state d roots p) own ∙ ap (λ a. some_plan (led d roots (way_to a))) (sym above) in
-      let on_here : some_of inside ≡ some_plan (led d roots (way_to (node.number ∷ node.above))) =
-      some-part (plans ++ more) inside (state d roots m) here
-      ∙ ap (λ n. some_plan (led d roots (way_to (n ∷ node.above)))) (sym (through.numbers m within)) in
       let behind : OnWay d roots way plans (tree_node (tree_nodes d) m).above = subst (OnWay d roots way plans) (sym above) s.stands.on in
       record {
         stands = record {
@@ -641,42 +652,58 @@ module _ (d : Document) (lines : List FoundLine) where
             behind,
           );
         };
-        is = passed_is
-            ∙ (ap (λ b. b && is_left around inside) (sym (through.kinds_are m within))
-            ∙ (ap (λ b. is_element node && (b && not (some_of inside))) on_around
-            ∙ (ap (λ b. is_element node && (some_plan (led d roots (way_to node.above)) && not b)) on_here
-            ∙ and-elim (is_element node) (some_plan (led d roots (way_to node.above)) && not (some_plan (led d roots (way_to (node.number ∷ node.above))))))));
+        around_is = on_around;
+        inside_is = here;
+        ends = to_is;
       }
+
+  pub some-inside : LeadsThrough d → (roots : List Inside) (spans : List Span) (way : List Opened) (m : ℕ) (arrived : Arrived) → m < length d.nodes
+      → IsReached d lines roots spans way m arrived
+      → some_of arrived.inside
+      ≡ some_plan (led d roots (way_to ((tree_node (tree_nodes d) m).number ∷ (tree_node (tree_nodes d) m).above)))
+  some-inside through roots spans way m arrived within r =
+      some-part r.stands.plans arrived.inside (state d roots m) r.inside_is
+      ∙ ap (λ n. some_plan (led d roots (way_to (n ∷ (tree_node (tree_nodes d) m).above)))) (sym (through.numbers m within))
+
+  -- whether a node that is reached is passed over
+  pub passed-here : LeadsThrough d → (roots : List Inside) (spans : List Span) (way : List Opened) (m : ℕ) (arrived : Arrived) (passed : Bool)
+      → m < length d.nodes → IsReached d lines roots spans way m arrived
+      → passed ≡ (is_element_kind (node_at d.nodes m).kind && is_left arrived.around arrived.inside)
+      → passed ≡ is_passed d roots (tree_node (tree_nodes d) m)
+  passed-here through roots spans way m arrived passed within r passed_is =
+      let node = tree_node (tree_nodes d) m in
+      passed_is
+      ∙ (ap (λ b. b && is_left arrived.around arrived.inside) (sym (through.kinds_are m within))
+      ∙ (ap (λ b. is_element node && (b && not (some_of arrived.inside))) r.around_is
+      ∙ (ap (λ b. is_element node && (some_plan (led d roots (way_to node.above)) && not b)) (some-inside through roots spans way m arrived within r)
+      ∙ and-elim (is_element node) (some_plan (led d roots (way_to node.above)) && not (some_plan (led d roots (way_to (node.number ∷ node.above))))))))
 
   spans-begin : (rows : List Row) → lines ≡ lined d (plan_of rows) → SpansOf d lines (first_spans rows lines) (roots_of rows)
   spans-begin [] is = tt
   spans-begin (row ∷ rows) is = (
     record {
-      front = [];
-      back = [];
-      is = is ∙ sym (append-nil (lined d (plan_of (row ∷ rows))));
-      begins = refl;
-      ends = (let e = ap length is in omega arith);
+      is = record {
+        front = [];
+        back = [];
+        is = is ∙ sym (append-nil (lined d (plan_of (row ∷ rows))));
+        begins = refl;
+        ends = (let e = ap length is in omega arith);
+      };
+      placed = refl;
     },
     tt,
   )
 
-  stands-begin : LeadsThrough d → (rows : List Row) (spans : List Span) (way : List Opened) → lines ≡ lined d (plan_of rows)
+  pub stands-begin : LeadsThrough d → (rows : List Row) (spans : List Span) (way : List Opened) → lines ≡ lined d (plan_of rows)
       → Begins 0 rows lines spans way → Stands d lines (roots_of rows) spans way 0
   stands-begin through rows spans way is begins =
       let some : 0 < length d.nodes = let r = through.rooted in omega (arith, r) in
-      let none : OnWay d (roots_of rows) [] [] (tree_node (tree_nodes d) 0).above = subst (OnWay d (roots_of rows) [] []) (sym through.outermost) tt in
+      let none : OnWay d (roots_of rows) [] [] (tree_node (tree_nodes d) 0).above = subst (OnWay d (roots_of rows) [] []) (sym through.outermost) refl in
       record {
         plans = roots_of rows;
         are = subst (λ ss. SpansOf d lines ss (roots_of rows)) (sym begins.0) (spans-begin rows is);
         on = ([], [], begins.1, sym (state-begin d (roots_of rows) through.outermost), some, none);
       }
-
-  pub record Noting (rows : List Row) (spans : List Span) (way : List Opened) (n : ℕ) (passed : List ℕ) : Type 0 where
-    pub within : n < length d.nodes
-    pub stands : Stands d lines (roots_of rows) spans way n
-    pub noted : passed ≡ map number (filter (is_passed d (roots_of rows)) (take (n + 1) (tree_nodes d)))
-    pub inside : All (λ m. m < length d.nodes) passed
 
   abbrev dark : Node
   dark = record { number = 0; kind = kinds.Document; name = None; above = []; text = [] }
@@ -684,25 +711,57 @@ module _ (d : Document) (lines : List FoundLine) where
   long : length (tree_nodes d) ≡ length d.nodes
   long = length-map d.nodes (node_of d.names)
 
-  one-more : (rows : List Row) (n : ℕ) → n < length d.nodes
-      → map number (filter (is_passed d (roots_of rows)) (take (n + 1) (tree_nodes d)))
-      ≡ map number (filter (is_passed d (roots_of rows)) (take n (tree_nodes d)))
-      ++ one_if (is_passed d (roots_of rows) (tree_node (tree_nodes d) n)) (tree_node (tree_nodes d) n).number
-  one-more rows n within =
-      let test = is_passed d (roots_of rows) in
-      let node = tree_node (tree_nodes d) n in
-      ap (λ xs. map number (filter test xs)) (take_more (tree_nodes d) n dark (omega (arith, within, long)))
-      ∙ (ap (map number) (filter-append test (take n (tree_nodes d)) (node ∷ []))
-      ∙ (map-append number (filter test (take n (tree_nodes d))) (filter test (node ∷ []))
-      ∙ ap (λ xs. map number (filter test (take n (tree_nodes d))) ++ xs) (at (test node))))
-    where
-      at : (b : Bool) → map number (cond b (tree_node (tree_nodes d) n ∷ []) []) ≡ one_if b (tree_node (tree_nodes d) n).number
-      at true = refl
-      at false = refl
+  -- ---- the nodes up to one that pass a test
 
-  one-inside : (b : Bool) (m : ℕ) → m < length d.nodes → All (λ k. k < length d.nodes) (one_if b m)
-  one-inside true m within = All-cons (λ k. k < length d.nodes) m [] within (All-nil (λ k. k < length d.nodes))
-  one-inside false m within = All-nil (λ k. k < length d.nodes)
+  pub record Noted (test : Node → Bool) (n : ℕ) (noted : List ℕ) : Type 0 where
+    pub are : noted ≡ map number (filter test (take (n + 1) (tree_nodes d)))
+    pub inside : All (λ m. m < length d.nodes) noted
+
+  module _ (test : Node → Bool) where
+    one-more : (n : ℕ) → n < length d.nodes
+        → map number (filter test (take (n + 1) (tree_nodes d)))
+        ≡ map number (filter test (take n (tree_nodes d))) ++ one_if (test (tree_node (tree_nodes d) n)) (tree_node (tree_nodes d) n).number
+    one-more n within =
+        let node = tree_node (tree_nodes d) n in
+        ap (λ xs. map number (filter test xs)) (take_more (tree_nodes d) n dark (omega (arith, within, long)))
+        ∙ (ap (map number) (filter-append test (take n (tree_nodes d)) (node ∷ []))
+        ∙ (map-append number (filter test (take n (tree_nodes d))) (filter test (node ∷ []))
+        ∙ ap (λ xs. map number (filter test (take n (tree_nodes d))) ++ xs) (at (test node))))
+      where
+        at : (b : Bool) → map number (cond b (tree_node (tree_nodes d) n ∷ []) []) ≡ one_if b (tree_node (tree_nodes d) n).number
+        at true = refl
+        at false = refl
+
+    one-inside : (b : Bool) (m : ℕ) → m < length d.nodes → All (λ k. k < length d.nodes) (one_if b m)
+    one-inside true m within = All-cons (λ k. k < length d.nodes) m [] within (All-nil (λ k. k < length d.nodes))
+    one-inside false m within = All-nil (λ k. k < length d.nodes)
+
+    pub noted-first : 0 < length d.nodes → test (tree_node (tree_nodes d) 0) ≡ false → Noted test 0 []
+    noted-first some first = record {
+      are = sym (one-more 0 some ∙ ap (λ b. one_if b (tree_node (tree_nodes d) 0).number) first);
+      inside = All-nil (λ m. m < length d.nodes);
+    }
+
+    pub noted-more : LeadsThrough d → (n m : ℕ) (noted more : List ℕ) (passes : Bool) → m < length d.nodes → m ≡ n + 1
+        → Noted test n noted → passes ≡ test (tree_node (tree_nodes d) m) → more ≡ noted ++ one_if passes m → Noted test m more
+    noted-more through n m noted more passes here m_is c passes_is more_is = record {
+      are = more_is ∙ (ap (λ b. noted ++ one_if b m) passes_is
+          ∙ (ap (λ k. noted ++ one_if (test (tree_node (tree_nodes d) m)) k) (sym (through.numbers m here))
+          ∙ (ap (λ ps. ps ++ one_if (test (tree_node (tree_nodes d) m)) (tree_node (tree_nodes d) m).number)
+          (c.are ∙ ap (λ k. map number (filter test (take k (tree_nodes d)))) (sym m_is)) ∙ sym (one-more m here))));
+      inside = subst (All (λ k. k < length d.nodes)) (sym more_is)
+          (All-append (λ k. k < length d.nodes) noted (one_if passes m) c.inside (one-inside passes m here));
+    }
+
+    pub noted-all : (n : ℕ) (noted : List ℕ) → Noted test n noted → (n + 1 < length d.nodes → ⊥) → noted ≡ map number (filter test (tree_nodes d))
+    noted-all n noted c end = c.are ∙ ap (λ xs. map number (filter test xs)) (take_all (n + 1) (tree_nodes d) (omega (arith, end, long)))
+
+  -- ---- the elements passed over up to a node
+
+  pub record Noting (rows : List Row) (spans : List Span) (way : List Opened) (n : ℕ) (passed : List ℕ) : Type 0 where
+    pub within : n < length d.nodes
+    pub stands : Stands d lines (roots_of rows) spans way n
+    pub noted : Noted (is_passed d (roots_of rows)) n passed
 
   pub noting_begin : LeadsThrough d → (rows : List Row) (spans : List Span) (way : List Opened) (n : ℕ) (passed : List ℕ)
       → lines ≡ lined d (plan_of rows) → Begins n rows lines spans way → n ≡ 0 → passed ≡ [] → Noting rows spans way n passed
@@ -717,8 +776,7 @@ module _ (d : Document) (lines : List FoundLine) where
       let at_zero : Noting rows spans way 0 [] = record {
         within = some;
         stands = stands-begin through rows spans way is (subst (λ k. Begins k rows lines spans way) zero_is begins);
-        noted = sym (one-more rows 0 some ∙ ap (λ b. one_if b (tree_node (tree_nodes d) 0).number) first);
-        inside = All-nil (λ m. m < length d.nodes);
+        noted = noted-first (is_passed d (roots_of rows)) some first;
       } in
       subst (λ ps. Noting rows spans way n ps) (sym none) (subst (λ k. Noting rows spans way k []) (sym zero_is) at_zero)
 
@@ -727,22 +785,19 @@ module _ (d : Document) (lines : List FoundLine) where
   noting_before rows spans way n passed m c m_is = record { last = n; is = m_is; stands = c.stands }
 
   pub noting_more : LeadsThrough d → (rows : List Row) (spans : List Span) (way : List Opened) (n : ℕ) (passed : List ℕ) (m : ℕ) (more_spans : List Span)
-      (more_way : List Opened) (is_passed_now : Bool) (more : List ℕ)
+      (more_way : List Opened) (arrived : Arrived) (is_passed_now : Bool) (more : List ℕ)
       → Noting rows spans way n passed → n + 1 < length d.nodes → m ≡ n + 1
-      → IsReached d lines (roots_of rows) more_spans more_way m is_passed_now → more ≡ passed ++ one_if is_passed_now m
+      → IsReached d lines (roots_of rows) more_spans more_way m arrived
+      → is_passed_now ≡ (is_element_kind (node_at d.nodes m).kind && is_left arrived.around arrived.inside)
+      → more ≡ passed ++ one_if is_passed_now m
       → Noting rows more_spans more_way m more
-  noting_more through rows spans way n passed m more_spans more_way is_passed_now more c within m_is v more_is =
+  noting_more through rows spans way n passed m more_spans more_way arrived is_passed_now more c within m_is v passed_is more_is =
       let here : m < length d.nodes = omega (arith, within, m_is) in
       record {
         within = here;
         stands = v.stands;
-        noted =
-            more_is ∙ (ap (λ b. passed ++ one_if b m) v.is
-            ∙ (ap (λ k. passed ++ one_if (is_passed d (roots_of rows) (tree_node (tree_nodes d) m)) k) (sym (through.numbers m here))
-            ∙ (ap (λ ps. ps ++ one_if (is_passed d (roots_of rows) (tree_node (tree_nodes d) m)) (tree_node (tree_nodes d) m).number)
-            (c.noted ∙ ap (λ k. map number (filter (is_passed d (roots_of rows)) (take k (tree_nodes d)))) (sym m_is)) ∙ sym (one-more rows m here))));
-        inside = subst (All (λ k. k < length d.nodes)) (sym more_is)
-            (All-append (λ k. k < length d.nodes) passed (one_if is_passed_now m) c.inside (one-inside is_passed_now m here));
+        noted = noted-more (is_passed d (roots_of rows)) through n m passed more is_passed_now here m_is c.noted
+            (passed-here through (roots_of rows) more_spans more_way m arrived is_passed_now here v passed_is) more_is;
       }
 
   pub noting_end : LeadsThrough d → (rows : List Row) (spans : List Span) (way : List Opened) (n : ℕ) (passed : List ℕ) → Noting rows spans way n passed
@@ -750,5 +805,5 @@ module _ (d : Document) (lines : List FoundLine) where
       → passed ≡ passed_nodes (tree_nodes d) rows
   unfolding passed_nodes
   noting_end through rows spans way n passed c end =
-      c.noted ∙ (ap (λ xs. map number (filter (is_passed d (roots_of rows)) xs)) (take_all (n + 1) (tree_nodes d) (omega (arith, end, long)))
-      ∙ ap (map number) (filter_agree (is_passed d (roots_of rows)) (is_passed_over (tree_nodes d) rows) (through.passed_over rows) (tree_nodes d)))
+      noted-all (is_passed d (roots_of rows)) n passed c.noted end
+      ∙ ap (map number) (filter_agree (is_passed d (roots_of rows)) (is_passed_over (tree_nodes d) rows) (through.passed_over rows) (tree_nodes d))

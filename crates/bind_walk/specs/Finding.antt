@@ -1,5 +1,5 @@
 -- How what is found by lines is what rows pick. No public clause cites it.
-use Rattle.std.specs.Prelude.{◌≡◌, ℕ, All, List, [], map}
+use Rattle.std.specs.Prelude.{◌≡◌, ℕ, All, List, []}
 use Rattle.std.specs.List.{flat_map, sum_by}
 use Rattle.std.specs.List.Sorted.{IsPermutation}
 use Rattle.node_arena.specs.Document.{Document}
@@ -15,7 +15,7 @@ use Rattle.bind_meaning.specs.Terms.{in_order}
 use Rattle.bind_walk.specs.declared.lines.Wanted.TheVariants as wants
 use Rattle.bind_walk.specs.declared.finds.Find.{Find}
 use Rattle.bind_walk.specs.Finds.{picked_for}
-use Rattle.bind_walk.specs.Lines.{found_line, lined}
+use Rattle.bind_walk.specs.Lines.{found_lines, lined}
 use Rattle.bind_walk.specs.Picks.{is_indicator}
 use Rattle.bind_walk.specs.Sorting.{Sorts}
 use Rattle.bind_walk.specs.Walks.{sight}
@@ -26,7 +26,7 @@ pub record AreFound (d : Document) (rows : List Row) (finds : List Find) : Type 
 
 pub record RowsAreWalked : Type 0 where
   pub moved : (d : Document) (rows : List Row) → All HasSteps rows → IsPermutation (picked_from (sight d) 0 rows [] 0) (walked (sight d) (plan_of rows) [] 0)
-  pub lines : (d : Document) (rows : List Row) → All HasSteps rows → map (found_line d rows) (flat (plan_of rows)) ≡ lined d (plan_of rows)
+  pub lines : (d : Document) (rows : List Row) → found_lines d rows (flat (plan_of rows)) ≡ lined d (plan_of rows)
 
 -- What was found for one reason, in order, is what the rows of that sort pick.
 pub record SortsPicks (d : Document) : Type 0 where

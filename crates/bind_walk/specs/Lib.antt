@@ -5,5 +5,6 @@ pub mod Sorting
 pub mod Picks
 pub mod Finding
 pub mod Passing
+pub mod Losing
 pub mod Found
 pub mod Chains

@@ -22,7 +22,7 @@ use Rattle.bind_walk.specs.declared.lines.FoundLine.{FoundLine}
 use Rattle.bind_walk.specs.declared.walk.Carried.{Carried}
 use Rattle.bind_walk.specs.declared.finds.Find.{Find}
 use Rattle.bind_walk.specs.Finds.{Lists, put_all}
-use Rattle.bind_walk.specs.Lines.{wanted, lined, found_cell}
+use Rattle.bind_walk.specs.Lines.{wanted, lined, found_cell, own_place}
 use Rattle.bind_walk.specs.Found.{found_element, found_guard}
 
 -- ---- the elements of groups
@@ -99,6 +99,7 @@ line_of d s cells inside = record {
   guards = map (found_guard d) s.guards;
   group = s.group;
   rows = flat_map (found_cell d) cells;
+  place = own_place s cells inside;
   size = length (lined d inside);
 }
 

@@ -1,12 +1,12 @@
 //! The lines of a table with their names as a document has them.
 
-ghost use Rattle.std.specs.Prelude.{◌≡◌, ◌+◌, ◌++◌, map, option_copied, slice_get, IfOk, OnOk};
-ghost use Rattle.std.specs.List.{flat_map};
+ghost use Rattle.std.specs.Prelude.{◌≡◌, ◌+◌, ◌++◌, ◌||◌, option_copied, slice_get, take, IfOk, OnOk};
+ghost use Rattle.std.specs.List.{flat_map, list_any};
 ghost use Rattle.bind_table.specs.Lines.{flat, plan_of};
 ghost use Rattle.bind_walk.specs.Lines as spec;
 
 use crate::{FoundGuard, FoundLeaf, element_number, find_guards, leaf_number};
-use bind_rows::{Check, Content, Many, Row};
+use bind_rows::{Check, Content, Many, Row, is_added};
 use bind_table::{Binding, Line};
 use node_arena::Doc;
 use std::alloc::{AllocError, Global};
@@ -46,6 +46,8 @@ pub(crate) struct FoundLine {
     pub(crate) guards: Many<FoundGuard>,
     pub(crate) group: Option<Group>,
     pub(crate) rows: Many<FoundRow>,
+    /// Its number in the table, where a row that nobody added ends at it or inside it.
+    pub(crate) place: Option<u32>,
     /// How many lines stand inside this one.
     pub(crate) size: usize,
 }
@@ -57,6 +59,7 @@ impl Drop for FoundLine {
             guards,
             group: _,
             rows,
+            place: _,
             size: _,
         } = self;
         drop(guards);
@@ -69,11 +72,15 @@ pub(crate) fn find_lines(
     doc: &Doc<'_>,
     table: &Binding,
 ) -> Result<Vec<FoundLine>, AllocError>
-    ensures { IfOk result (λ found. found.items ≡ map (spec.found_line doc.now table.now) (flat (plan_of table.now))) }
+    ensures { IfOk result (λ found. found.items ≡ spec.found_lines doc.now table.now (flat (plan_of table.now))) }
 {
+    let all = table.rows();
     let mut found = Vec::new(alloc);
-    'lines: for line in table.lines() {
-        found.push(find_line(alloc, doc, line, table.rows())?)?;
+    let mut left = table.lines();
+    'lines: while let Some((line, behind)) = left.split_first() {
+        let place = place_of(all, line, behind);
+        found.push(find_line(alloc, doc, line, place, all)?)?;
+        left = behind;
     }
     Ok(found)
 }
@@ -82,17 +89,81 @@ fn find_line(
     alloc: Global,
     doc: &Doc<'_>,
     line: &Line,
+    place: Option<u32>,
     rows: &[Row],
 ) -> Result<FoundLine, AllocError>
-    ensures { IfOk result (λ found. found ≡ spec.found_line doc.now rows.now line.now) }
+    ensures { IfOk result (λ found. found ≡ spec.found_line doc.now rows.now line.now place) }
 {
     Ok(FoundLine {
         name: element_number(alloc, doc, &line.step.name)?,
         guards: find_guards(alloc, doc, line.step.guards.as_slice())?,
         group: line.step.group,
         rows: find_rows(alloc, doc, line.rows.as_slice(), rows)?,
+        place,
         size: line.size,
     })
+}
+
+/// The place of a line with those behind it. Mostly the first row that is looked at gives it.
+fn place_of(rows: &[Row], line: &Line, behind: &[Line]) -> Option<u32>
+    ensures { result ≡ spec.line_place rows.now line.now behind.now }
+{
+    place_if(
+        is_built(rows, line, front(behind, line.size)),
+        line.step.number,
+    )
+}
+
+fn place_if(is_built: bool, number: u32) -> Option<u32>
+    ensures { result ≡ spec.place_if is_built number }
+{
+    if is_built { Some(number) } else { None }
+}
+
+/// Whether a row that nobody added ends at a line or inside it.
+fn is_built(rows: &[Row], line: &Line, inside: &[Line]) -> bool
+    ensures { result ≡ (spec.has_built rows.now line.now || list_any (spec.has_built rows.now) inside.now) }
+{
+    if has_built(rows, line.rows.as_slice()) {
+        return true;
+    }
+    'lines: for inner in inside {
+        if has_built(rows, inner.rows.as_slice()) {
+            return true;
+        }
+    }
+    false
+}
+
+fn has_built(rows: &[Row], numbers: &[usize]) -> bool
+    ensures { result ≡ list_any (spec.is_built_at rows.now) numbers.now }
+{
+    'numbers: for number in numbers {
+        if is_built_at(rows, *number) {
+            return true;
+        }
+    }
+    false
+}
+
+fn is_built_at(rows: &[Row], number: usize) -> bool
+    ensures { result ≡ spec.is_built_at rows.now number }
+{
+    match row_of(rows, number) {
+        Some(row) => !is_added(row),
+        None => false,
+    }
+}
+
+/// The first so many lines, or all.
+fn front(lines: &[Line], size: usize) -> &[Line]
+    ensures { result.now ≡ take size lines.now }
+{
+    if size < lines.len() {
+        lines.split_at(size).0
+    } else {
+        lines
+    }
 }
 
 /// Those of the rows with these numbers that are read.

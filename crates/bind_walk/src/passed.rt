@@ -3,7 +3,7 @@
 ghost use Rattle.std.specs.Prelude.{◌≡◌, ◌++◌, ◌-◌, ◌<◌, ◌≤◌, ◌&&◌, All, List, length, get_or, slice_get, Some, OnOk, IfOk};
 ghost use Rattle.node_arena.specs.Document.{node_at};
 ghost use Rattle.node_arena.specs.Moves.{tree_nodes};
-ghost use Rattle.bind_table.specs.Lines.{Plan, plan_of};
+ghost use Rattle.bind_table.specs.Lines.{plan_of};
 ghost use Rattle.bind_meaning.specs.Elements.{is_element_kind};
 ghost use Rattle.bind_meaning.specs.Faults.{passed_nodes};
 ghost use Rattle.bind_walk.specs.Lines.{lined};
@@ -16,7 +16,7 @@ use bind_meaning::is_element;
 use bind_rows::Row;
 use bind_table::laws::same_steps_are_equal;
 use inv_base::{Kind, Steps};
-use node_arena::{Doc, NodeId, moves_lead_on, names_are_found_by_number};
+use node_arena::{Doc, NodeId, insides_are_intervals, moves_lead_on, names_are_found_by_number};
 use std::alloc::{AllocError, Global};
 use std::sync::ledger::Ledger;
 
@@ -32,6 +32,13 @@ pub(crate) struct Span {
 pub(crate) struct Opened {
     pub(crate) node: NodeId,
     pub(crate) from: usize,
+}
+
+/// The spans to which the names of the node around lead, and those to which a node's own name leads from these.
+#[derive(Clone, Copy)]
+pub(crate) struct Arrived {
+    pub(crate) around: Span,
+    pub(crate) inside: Span,
 }
 
 /// Where the names of a node and of those around it lead: the insides of the lines that have them.
@@ -67,26 +74,26 @@ pub(crate) fn passed_of<L: Ledger>(
     let mut reached = beginning(alloc, n, rows, lines)?;
     let mut passed = Vec::new(alloc);
     'nodes: while let Some(m) = doc.next_node(n, steps) {
-        let is_passed = reach(doc, lines, &mut reached, m, steps)?;
-        note(m, is_passed, &mut passed)?;
+        let arrived = reach(doc, lines, &mut reached, m, steps)?;
+        note(m, is_left_at(doc.kind(m), arrived), &mut passed)?;
         n = m;
     }
     drop(reached);
     Ok(passed)
 }
 
-/// Puts a node behind the others, if it is passed over.
-fn note(m: NodeId, is_passed: bool, passed: &mut Vec<NodeId>) -> Result<(), AllocError>
-    ensures { OnOk result (passed.new.items ≡ passed.old.items ++ spec.one_if is_passed m) }
+/// Puts a node behind the others, if it is one of them.
+pub(crate) fn note(m: NodeId, is_one: bool, noted: &mut Vec<NodeId>) -> Result<(), AllocError>
+    ensures { OnOk result (noted.new.items ≡ noted.old.items ++ spec.one_if is_one m) }
 {
-    if is_passed {
-        passed.push(m)?;
+    if is_one {
+        noted.push(m)?;
     }
     Ok(())
 }
 
 /// All lines, for the document's own node; none where the table has no row.
-fn beginning(
+pub(crate) fn beginning(
     alloc: Global,
     document: NodeId,
     rows: &[Row],
@@ -110,7 +117,7 @@ fn beginning(
 }
 
 /// Names lead through a document as they do through the lines of a table. It has no code.
-fn names_lead_through(doc: &Doc<'_>)
+pub(crate) fn names_lead_through(doc: &Doc<'_>)
     ensures { spec.LeadsThrough doc.now }
 {
     same_steps_are_equal();
@@ -118,21 +125,22 @@ fn names_lead_through(doc: &Doc<'_>)
     chains_lead_on(doc);
     names_are_found_by_number();
     moves_lead_on();
+    insides_are_intervals();
 }
 
-/// Goes on to the next node: notes where its names lead, and answers whether it is passed over.
-fn reach<L: Ledger>(
+/// Goes on to the next node, and answers where its names lead.
+pub(crate) fn reach<L: Ledger>(
     doc: &Doc<'_>,
     lines: &[FoundLine],
     reached: &mut Reached,
     m: NodeId,
     steps: &mut Steps<L>,
-) -> Result<bool, AllocError>
+) -> Result<Arrived, AllocError>
     requires within { m < length doc.now.nodes }
     requires behind { 0 < m }
     requires reached { spec.IsSomeBefore doc.now lines.now reached.old.spans.items reached.old.way.items m }
-    ensures { IfOk result (λ passed. (roots : List Plan) → spec.IsBefore doc.now lines.now roots reached.old.spans.items reached.old.way.items m
-        → spec.IsReached doc.now lines.now roots reached.new.spans.items reached.new.way.items m passed) }
+    ensures { IfOk result (λ arrived. (roots : List spec.Inside) → spec.IsBefore doc.now lines.now roots reached.old.spans.items reached.old.way.items m
+        → spec.IsReached doc.now lines.now roots reached.new.spans.items reached.new.way.items m arrived) }
 {
     names_lead_through(doc);
     match doc.parent(m, steps) {
@@ -143,7 +151,7 @@ fn reach<L: Ledger>(
                 node: m,
                 from: inside.from,
             })?;
-            Ok(is_left_at(doc.kind(m), around, inside))
+            Ok(Arrived { around, inside })
         }
         None => unreachable!(),
     }
@@ -152,7 +160,7 @@ fn reach<L: Ledger>(
 /// Comes out of a node to one around it, or stays at it, and answers the spans to which its name leads. What lies between is forgotten.
 fn come_out(doc: &Doc<'_>, lines: &[FoundLine], reached: &mut Reached, p: NodeId) -> Span
     requires { spec.IsSomeNear doc.now lines.now reached.old.spans.items reached.old.way.items p }
-    ensures { (roots : List Plan) → spec.IsNear doc.now lines.now roots reached.old.spans.items reached.old.way.items p
+    ensures { (roots : List spec.Inside) → spec.IsNear doc.now lines.now roots reached.old.spans.items reached.old.way.items p
         → spec.StandsAt doc.now lines.now roots reached.new.spans.items reached.new.way.items p result }
 {
     names_lead_through(doc);
@@ -183,17 +191,17 @@ fn span_at(spans: &[Span], at: usize) -> Span
 }
 
 /// Whether a node is an element to which names don't lead, right inside one to which they do.
-fn is_left_at(kind: Kind, around: Span, inside: Span) -> bool
-    ensures { result ≡ (is_element_kind kind && spec.is_left around inside) }
+fn is_left_at(kind: Kind, arrived: Arrived) -> bool
+    ensures { result ≡ (is_element_kind kind && spec.is_left arrived.around arrived.inside) }
 {
-    is_element(kind) && is_left(around, inside)
+    is_element(kind) && is_some(arrived.around) && !is_some(arrived.inside)
 }
 
-/// Whether names lead to the node around and no further.
-fn is_left(around: Span, inside: Span) -> bool
-    ensures { result ≡ spec.is_left around inside }
+/// Whether a span has anything.
+pub(crate) fn is_some(span: Span) -> bool
+    ensures { result ≡ spec.some_of span }
 {
-    around.from < around.to && !(inside.from < inside.to)
+    span.from < span.to
 }
 
 /// Puts the insides of the lines of a part of these spans that have a node's name behind the others, and answers where they are.

@@ -24,7 +24,7 @@ use crate::{WalkInput, chains_lead_on};
 use bind_meaning::Picked;
 use bind_rows::Many;
 use bind_table::Binding;
-use bind_table::laws::{lines_have_the_rows, rows_pick_what_lines_pick};
+use bind_table::laws::rows_pick_what_lines_pick;
 use inv_base::Steps;
 use node_arena::{Doc, NodeId, moves_lead_on, names_are_found_by_number};
 use std::alloc::{AllocError, Global};
@@ -118,8 +118,11 @@ fn sorted_picks(finds: Finds, passed_over: Vec<NodeId>) -> Result<Picks, AllocEr
 }
 
 /// The lines of the table with their names as the document has them.
-fn lines_of(alloc: Global, doc: &Doc<'_>, table: &Binding) -> Result<Vec<FoundLine>, AllocError>
-    requires { All HasSteps table.now }
+pub(crate) fn lines_of(
+    alloc: Global,
+    doc: &Doc<'_>,
+    table: &Binding,
+) -> Result<Vec<FoundLine>, AllocError>
     ensures { IfOk result (λ lines. lines.items ≡ lined doc.now (plan_of table.now)) }
 {
     rows_are_walked();
@@ -151,7 +154,6 @@ fn find_all<L: Ledger>(
 fn rows_are_walked()
     ensures { spec.RowsAreWalked }
 {
-    lines_have_the_rows();
     rows_pick_what_lines_pick::<NodeId, Many<Carried>, Find>();
 }
 

@@ -12,8 +12,9 @@ use Rattle.job_protocol.specs.declared.status.Status.TheVariants as statuses
 use Rattle.job_protocol.specs.Protocol.{Answer, done, answer_of}
 use Rattle.job_protocol.specs.Runs.{EndsIn}
 use Rattle.invoice_jobs.specs.Sources.{Sources, ReadingProfile}
-use Rattle.invoice_jobs.specs.Invoices.{converted, listed, convert_protocol}
+use Rattle.invoice_jobs.specs.Invoices.{converted, listed, convert_protocol, convert_whole_protocol}
 use Rattle.invoice_jobs.specs.Conversions.{AreReadAs, IsProfile, IsReadAs, IsCarriedBy, text_of_invoice, Holds, IsDocumentText, IsConverted, IsConvertedThere}
+use Rattle.invoice_jobs.specs.Conversions.{IsConvertedWhole}
 use Rattle.invoice_jobs.proofs.ConversionLemmas.{read-goes, converted-done}
 use Rattle.invoice_cli.specs.Job.{convert}
 use Rattle.invoice_cli.specs.Answer.{answer_to}
@@ -47,8 +48,11 @@ module _
         → IsConverted files syntax sources file (answer_of (convert_protocol syntax sources file) files))
         → ((held : Option Files) (syntax : Syntax) (sources : Sources) (file : List ℕ) (count : ℕ) (answer : Answer)
         → EndsIn held (convert_protocol syntax sources file) count answer → answer.status ≡ statuses.Done → IsConvertedThere held syntax sources file answer)
+        → ((held : Option Files) (syntax : Syntax) (sources : Sources) (file : List ℕ) (count : ℕ) (answer : Answer)
+        → EndsIn held (convert_whole_protocol syntax sources file) count answer → answer.status ≡ statuses.Done
+        → IsConvertedWhole held syntax sources file answer)
         → ConversionsReturn
-    conversions-return are_good read_valid texts told ended = record {
+    conversions-return are_good read_valid texts told ended whole = record {
       carried = λ steps first other sources file files reading_profile read are is by.
           let terms = are_good files sources reading_profile are in
           let valid = read_valid files file reading_profile read terms is in (
@@ -64,4 +68,5 @@ module _
           );
       answered = λ steps syntax sources file files good. told files syntax sources file good;
       ended = λ steps syntax sources file held count answer is good. ended held syntax sources file count answer is good;
+      whole = λ steps syntax sources file held count answer is good. whole held syntax sources file count answer is good;
     }

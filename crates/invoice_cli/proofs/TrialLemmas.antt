@@ -7,11 +7,12 @@ use Rattle.bind_meaning.specs.declared.tables.Syntax.{Syntax}
 use Rattle.invoice_cli.specs.declared.options.Optioned.{Optioned}
 use Rattle.invoice_cli.specs.declared.options.Optioned.TheVariants as commands
 use Rattle.invoice_cli.specs.declared.options.Switch.{Switch}
-use Rattle.invoice_cli.specs.Job.{Job, outline, show, totals, convert, check, validate, extract, query, trial, help, version, bad_word, Options, none_given}
+use Rattle.invoice_cli.specs.Job.{Job, outline, show, totals, convert, convert_whole, check, validate, extract, query, trial, help, version, bad_word, Options, none_given}
 use Rattle.invoice_cli.specs.Job.{is_option, with_no_more, last_operand, offered, takes_value, with_flag, with_value, or_bad, last_word, optioned, sources}
 use Rattle.invoice_cli.specs.Job.{format_of, show_of, totals_of, convert_of, check_of, validate_of, is_digit, digits_value, at_most, number_up_to}
 use Rattle.invoice_cli.specs.Job.{by_number, extract_of}
-use Rattle.invoice_cli.specs.Job.{most_lines, try_of, query_of, job}
+use Rattle.invoice_cli.specs.Job.{conversion, most_lines, try_of, query_of, job}
+use Rattle.invoice_jobs.specs.Sources.{Sources}
 
 -- ---- numbers
 
@@ -108,12 +109,16 @@ module _ (command : Optioned) (further : Options → ℕ → List (List ℕ) →
 
 -- ---- commands
 
+few-conversion : (whole : Bool) (syntax : Syntax) (beside : Sources) (word : List ℕ) → HasFew (conversion whole syntax beside word)
+few-conversion true syntax beside word = tt
+few-conversion false syntax beside word = tt
+
 few-convert : (given : Options) (number : ℕ) (words : List (List ℕ)) → HasFew (convert_of given number words)
 few-convert given number words = by_target given.target where
   by_target : (target : Option Syntax) →
-      HasFew (elim target [ None ↦ bad_word number | (Some syntax) ↦ last_operand (convert syntax (sources given)) number words ])
+      HasFew (elim target [ None ↦ bad_word number | (Some syntax) ↦ last_operand (conversion given.whole syntax (sources given)) number words ])
   by_target None = tt
-  by_target (Some syntax) = few-operand (convert syntax (sources given)) number words (λ word. tt)
+  by_target (Some syntax) = few-operand (conversion given.whole syntax (sources given)) number words (few-conversion given.whole syntax (sources given))
 
 few-check : (given : Options) (number : ℕ) (words : List (List ℕ)) → HasFew (check_of given number words)
 few-check given number words = by_rules given.rules where

@@ -7,8 +7,8 @@ use Rattle.job_protocol.specs.Lines.{bad_word_line}
 use Rattle.trial_run.specs.Trials.{trial_of, trial_text}
 use Rattle.rule_texts.specs.declared.version.TheConstants.{RULES_VERSION}
 use Rattle.invoice_cli.specs.declared.usage.TheConstants.{HELP, VERSION}
-use Rattle.invoice_cli.specs.Job.{Job, outline, show, totals, convert, check, validate, extract, query, trial, help, version, bad_word}
-use Rattle.invoice_jobs.specs.Invoices.{show_protocol, convert_protocol, extract_protocol}
+use Rattle.invoice_cli.specs.Job.{Job, outline, show, totals, convert, convert_whole, check, validate, extract, query, trial, help, version, bad_word}
+use Rattle.invoice_jobs.specs.Invoices.{show_protocol, convert_protocol, convert_whole_protocol, extract_protocol}
 use Rattle.invoice_jobs.specs.Totals.{totals_protocol}
 use Rattle.document_jobs.specs.Outline.{outline_protocol}
 use Rattle.document_jobs.specs.Queries.{query_protocol}
@@ -25,6 +25,7 @@ protocol_of steps (outline file) = outline_protocol file
 protocol_of steps (show format sources file) = show_protocol format sources file
 protocol_of steps (totals sources file) = totals_protocol sources file
 protocol_of steps (convert syntax sources file) = convert_protocol syntax sources file
+protocol_of steps (convert_whole syntax sources file) = convert_whole_protocol syntax sources file
 protocol_of steps (check svrl phase rules file) = check_protocol svrl phase rules file
 protocol_of steps (validate svrl sources file) = validate_protocol svrl sources file
 protocol_of steps (extract number file) = extract_protocol number file

@@ -3,7 +3,7 @@ use Rattle.std.specs.Prelude.{List, ℕ, take, Some, None, option_map, Result, O
 use Rattle.std.specs.Borrow.{Bor}
 use Rattle.job_protocol.specs.Views.{text_of, texts_of}
 use Rattle.invoice_jobs.specs.Sources.{sources_of}
-use Rattle.invoice_cli.specs.Job.{Job, outline, show, totals, convert, check, validate, extract, query, trial, help, version, bad_word, Options, words_of}
+use Rattle.invoice_cli.specs.Job.{Job, outline, show, totals, convert, convert_whole, check, validate, extract, query, trial, help, version, bad_word, Options, words_of}
 use Rattle.invoice_cli.specs.declared.words.Asked.{Asked}
 use Rattle.invoice_cli.specs.declared.words.Command.{Command}
 use Rattle.invoice_cli.specs.declared.words.Command.TheVariants as commands
@@ -20,6 +20,7 @@ given_options given = record {
   codes_file = option_map text_of given.sources.codes_file;
   extension_file = option_map text_of given.sources.extension_file;
   target = given.target;
+  whole = given.whole;
   json = given.json;
   svrl = given.svrl;
   phase = option_map text_of given.phase;
@@ -41,6 +42,7 @@ asked_by rules (commands.Outline file) = outline file.now
 asked_by rules (commands.Show format sources file) = show format (sources_of sources) file.now
 asked_by rules (commands.Totals sources file) = totals (sources_of sources) file.now
 asked_by rules (commands.Convert syntax sources file) = convert syntax (sources_of sources) file.now
+asked_by rules (commands.ConvertWhole syntax sources file) = convert_whole syntax (sources_of sources) file.now
 asked_by rules (commands.Check svrl phase file) = check svrl (option_map text_of phase) rules file.now
 asked_by rules (commands.Validate svrl sources file) = validate svrl (sources_of sources) file.now
 asked_by rules (commands.Extract number file) = extract number file.now

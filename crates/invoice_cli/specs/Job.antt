@@ -14,7 +14,7 @@ use Rattle.invoice_cli.specs.declared.options.Switch.{Switch}
 use Rattle.invoice_cli.specs.declared.options.Switch.TheVariants as switches
 
 -- The outline of a file; the terms of an invoice, as lines or as JSON, by the code lists of a file or the built-in ones and by
--- the terms that another file adds or none; where its totals differ, likewise; the invoice in a syntax, likewise; what rule files find in
+-- the terms that another file adds or none; where its totals differ, likewise; the invoice in a syntax, likewise; the same, where nothing of its document is lost; what rule files find in
 -- a document, in SVRL or plain, by the patterns of a phase or those that each file has by default; all that is wrong with
 -- an invoice, in SVRL or plain, by such files beside it; an invoice's attached document of that number; the value of an
 -- expression at a document; a trial of the whole tool on a generated invoice of so many lines; the help; the version; or
@@ -24,6 +24,7 @@ pub data Job : Type 0 where
   show : AnswerFormat → Sources → List ℕ → Job
   totals : Sources → List ℕ → Job
   convert : Syntax → Sources → List ℕ → Job
+  convert_whole : Syntax → Sources → List ℕ → Job
   check : Bool → Option (List ℕ) → List (List ℕ) → List ℕ → Job
   validate : Bool → Sources → List ℕ → Job
   extract : ℕ → List ℕ → Job
@@ -49,30 +50,32 @@ last_operand job number (word ∷ words) = if is_option word then bad_word numbe
 
 -- ---- options: between the command and its operands, in any order
 
--- the files of code lists and of further terms, and the syntax to write; whether the answer is JSON and whether the report is SVRL,
+-- the files of code lists and of extension terms, and the syntax to write; whether a conversion has to keep all, whether the answer is JSON and whether the report is SVRL,
 -- the phase, and the rule files
 pub record Options : Type 0 where
   pub codes_file : Option (List ℕ)
   pub extension_file : Option (List ℕ)
   pub target : Option Syntax
+  pub whole : Bool
   pub json : Bool
   pub svrl : Bool
   pub phase : Option (List ℕ)
   pub rules : List (List ℕ)
 
 abbrev pub none_given : Options
-none_given = record { codes_file = None; extension_file = None; target = None; json = false; svrl = false; phase = None; rules = [] }
+none_given = record { codes_file = None; extension_file = None; target = None; whole = false; json = false; svrl = false; phase = None; rules = [] }
 
 abbrev pub switch_named : List ℕ → Option Switch
 switch_named word =
     if bytes_eq word (codes "--codes") then Some switches.CodeLists
     else (if bytes_eq word (codes "--extension") then Some switches.Extension
     else (if bytes_eq word (codes "--to") then Some switches.SyntaxToWrite
+    else (if bytes_eq word (codes "--whole") then Some switches.Whole
     else (if bytes_eq word (codes "--json") then Some switches.Json
     else (if bytes_eq word (codes "--svrl") then Some switches.Svrl
     else (if bytes_eq word (codes "--phase") then Some switches.Phase
     else (if bytes_eq word (codes "--rules") then Some switches.RuleFile
-    else None))))))
+    else None)))))))
 
 -- which options a command has
 abbrev pub has : Optioned → Switch → Bool
@@ -86,6 +89,7 @@ has commands.Totals _ = false
 has commands.Convert switches.CodeLists = true
 has commands.Convert switches.Extension = true
 has commands.Convert switches.SyntaxToWrite = true
+has commands.Convert switches.Whole = true
 has commands.Convert _ = false
 has commands.Check switches.Svrl = true
 has commands.Check switches.Phase = true
@@ -101,6 +105,7 @@ abbrev pub may_follow : Options → Switch → Bool
 may_follow given switches.CodeLists = is_none given.codes_file
 may_follow given switches.Extension = is_none given.extension_file
 may_follow given switches.SyntaxToWrite = is_none given.target
+may_follow given switches.Whole = not given.whole
 may_follow given switches.Json = not given.json
 may_follow given switches.Svrl = not given.svrl
 may_follow given switches.Phase = is_none given.phase
@@ -120,6 +125,7 @@ offered command given word = if_offered command given (switch_named word)
 
 -- Such an option takes the word behind it, whatever it is.
 abbrev pub takes_value : Switch → Bool
+takes_value switches.Whole = false
 takes_value switches.Json = false
 takes_value switches.Svrl = false
 takes_value _ = true
@@ -130,6 +136,9 @@ syntax_named word = if bytes_eq word (codes "ubl") then Some syntaxes.Ubl else (
 abbrev pub with_target : Options → Syntax → Options
 with_target given syntax = record given { target = Some syntax }
 
+abbrev pub with_whole : Options → Options
+with_whole given = record given { whole = true }
+
 abbrev pub with_json : Options → Options
 with_json given = record given { json = true }
 
@@ -138,6 +147,7 @@ with_svrl given = record given { svrl = true }
 
 -- the options with one more that takes no value
 abbrev pub with_flag : Options → Switch → Options
+with_flag given switches.Whole = with_whole given
 with_flag given switches.Json = with_json given
 with_flag given _ = with_svrl given
 
@@ -146,6 +156,7 @@ abbrev pub with_value : Options → Switch → List ℕ → Option Options
 with_value given switches.CodeLists value = Some (record given { codes_file = Some value })
 with_value given switches.Extension value = Some (record given { extension_file = Some value })
 with_value given switches.SyntaxToWrite value = option_map (with_target given) (syntax_named value)
+with_value given switches.Whole value = Some (with_whole given)
 with_value given switches.Json value = Some (with_json given)
 with_value given switches.Svrl value = Some (with_svrl given)
 with_value given switches.Phase value = Some (record given { phase = Some value })
@@ -188,9 +199,16 @@ show_of given number words = last_operand (show (format_of given.json) (sources 
 abbrev pub totals_of : Options → ℕ → List (List ℕ) → Job
 totals_of given number words = last_operand (totals (sources given)) number words
 
+abbrev pub conversion : Bool → Syntax → Sources → List ℕ → Job
+conversion true = convert_whole
+conversion false = convert
+
 -- Without a syntax to write, the word where the file would stand is bad.
 abbrev pub convert_of : Options → ℕ → List (List ℕ) → Job
-convert_of given number words = elim given.target [ None ↦ bad_word number | (Some syntax) ↦ last_operand (convert syntax (sources given)) number words ]
+convert_of given number words = elim given.target [
+  | None ↦ bad_word number
+  | (Some syntax) ↦ last_operand (conversion given.whole syntax (sources given)) number words
+]
 
 -- Without a rule file, likewise.
 abbrev pub check_of : Options → ℕ → List (List ℕ) → Job

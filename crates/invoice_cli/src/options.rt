@@ -62,10 +62,12 @@ impl<'w> RuleFiles<'w> {
 /// The options that were given.
 #[derive(Clone, Copy)]
 pub(crate) struct Given<'w> {
-    /// The files of code lists and of further terms.
+    /// The files of code lists and of extension terms.
     pub(crate) sources: Sources<'w>,
     /// The syntax to write.
     pub(crate) target: Option<Syntax>,
+    /// Whether a conversion has to keep all that the document says.
+    pub(crate) whole: bool,
     /// Whether the answer is to be JSON.
     pub(crate) json: bool,
     /// Whether the report is to be SVRL.
@@ -79,6 +81,7 @@ pub(crate) struct Given<'w> {
 pub(crate) const NONE_GIVEN: Given<'static> = Given {
     sources: NO_SOURCES,
     target: None,
+    whole: false,
     json: false,
     svrl: false,
     phase: None,
@@ -112,6 +115,8 @@ enum Switch {
     /// The file of terms that are added to those of the standard.
     Extension,
     SyntaxToWrite,
+    /// A conversion has to keep all that the document says. It takes no value.
+    Whole,
     /// The answer is to be JSON. It takes no value.
     Json,
     /// The report is to be SVRL. It takes no value.
@@ -128,6 +133,7 @@ fn switch_named(word: &str) -> Option<Switch>
         "--codes" => Some(Switch::CodeLists),
         "--extension" => Some(Switch::Extension),
         "--to" => Some(Switch::SyntaxToWrite),
+        "--whole" => Some(Switch::Whole),
         "--json" => Some(Switch::Json),
         "--svrl" => Some(Switch::Svrl),
         "--phase" => Some(Switch::Phase),
@@ -150,7 +156,7 @@ fn has(command: Optioned, switch: Switch) -> bool
             _ => false,
         },
         Optioned::Convert => match switch {
-            Switch::CodeLists | Switch::Extension | Switch::SyntaxToWrite => true,
+            Switch::CodeLists | Switch::Extension | Switch::SyntaxToWrite | Switch::Whole => true,
             _ => false,
         },
         Optioned::Check => match switch {
@@ -172,6 +178,7 @@ fn may_follow(given: &Given<'_>, switch: Switch) -> bool
         Switch::CodeLists => given.sources.codes_file.is_none(),
         Switch::Extension => given.sources.extension_file.is_none(),
         Switch::SyntaxToWrite => given.target.is_none(),
+        Switch::Whole => !given.whole,
         Switch::Json => !given.json,
         Switch::Svrl => !given.svrl,
         Switch::Phase => given.phase.is_none(),
@@ -198,7 +205,7 @@ fn takes_value(switch: Switch) -> bool
     ensures { result ≡ spec.takes_value switch }
 {
     match switch {
-        Switch::Json | Switch::Svrl => false,
+        Switch::Whole | Switch::Json | Switch::Svrl => false,
         _ => true,
     }
 }
@@ -212,6 +219,14 @@ fn syntax_named(word: &str) -> Option<Syntax>
         "cii" => Some(Syntax::Cii),
         _ => None,
     }
+}
+
+fn with_whole<'w>(given: &Given<'w>) -> Given<'w>
+    ensures { given_options result ≡ spec.with_whole (given_options given.now) }
+{
+    let mut more = *given;
+    more.whole = true;
+    more
 }
 
 fn with_json<'w>(given: &Given<'w>) -> Given<'w>
@@ -235,6 +250,7 @@ fn with_flag<'w>(given: &Given<'w>, switch: Switch) -> Given<'w>
     ensures { given_options result ≡ spec.with_flag (given_options given.now) switch }
 {
     match switch {
+        Switch::Whole => with_whole(given),
         Switch::Json => with_json(given),
         _ => with_svrl(given),
     }
@@ -284,6 +300,7 @@ fn with_value<'w>(given: &Given<'w>, switch: Switch, value: &'w str) -> Option<G
             Some(more)
         }
         Switch::SyntaxToWrite => with_target(given, value),
+        Switch::Whole => Some(with_whole(given)),
         Switch::Json => Some(with_json(given)),
         Switch::Svrl => Some(with_svrl(given)),
         Switch::Phase => {

@@ -13,7 +13,7 @@ use crate::words::{Command, command_of};
 use document_jobs::{Checking, check, outline, query};
 use held_output::{HeldOutput, Lent, Origin, hand_over};
 use inv_base::{Shelf, Sink, write_all};
-use invoice_jobs::{convert, extract, show, totals};
+use invoice_jobs::{convert, convert_whole, extract, show, totals};
 use job_protocol::{Status, tell_bad_word};
 use std::alloc::Global;
 use std::marker::Brand;
@@ -34,7 +34,7 @@ use validation_jobs::validate;
 /// An answer to `convert` means the invoice that was read (`conversions`): what is written of one that the syntax carries
 /// is a document of exactly the tree of the invoice's, and is read as exactly its terms; converting it to the other
 /// syntax, where that carries it too, and this back, writes the first bytes again. Nothing else is ever answered as done:
-/// where `convert` is, the code lists, the further terms and the file were accepted, and the syntax carries the invoice. All of it
+/// where `convert` is, the code lists, the extension terms and the file were accepted, and the syntax carries the invoice. All of it
 /// holds whatever terms a user adds.
 ///
 /// An answer to `try` says `same terms yes` and the generated total for each number of lines that words may name (`trials`).
@@ -98,6 +98,9 @@ fn answer<S: Shelf, O: Sink, E: Sink>(
         Command::Totals(sources, file) => totals(alloc, &sources, file, shelf, out, err),
         Command::Convert(syntax, sources, file) => {
             convert(alloc, syntax, &sources, file, shelf, out, err)
+        }
+        Command::ConvertWhole(syntax, sources, file) => {
+            convert_whole(alloc, syntax, &sources, file, shelf, out, err)
         }
         Command::Check(svrl, phase, file) => {
             let checking = Checking {

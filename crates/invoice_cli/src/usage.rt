@@ -5,8 +5,9 @@ Checks, lists, converts and queries e-invoices (EN 16931) in UBL 2.1 and CII.
 
 see whether an invoice is right, and what is wrong with it
   einv validate [--svrl] [--codes LISTS] [--extension TERMS] FILE
-      tells all faults of its terms, elements that hold no term, and rules of
-      EN 16931 that it breaks, with line and column; the rules are built in
+      tells all faults of its terms, elements that hold no term, values that
+      nobody reads, elements out of order, and broken rules of EN 16931, with
+      line and column; the rules are built in
       --svrl          the report in SVRL, the XML of Schematron reports
 
 read an invoice
@@ -24,9 +25,10 @@ check any XML document by rules of your own
       --svrl          the report in SVRL
 
 change the syntax of an invoice
-  einv convert --to ubl [--codes LISTS] [--extension TERMS] FILE
-  einv convert --to cii [--codes LISTS] [--extension TERMS] FILE
+  einv convert --to ubl [--whole] [--codes LISTS] [--extension TERMS] FILE
+  einv convert --to cii [--whole] [--codes LISTS] [--extension TERMS] FILE
       writes it in UBL or in CII
+      --whole         only where nothing of FILE would be lost
 
 take out what is attached
   einv extract K FILE
@@ -45,9 +47,10 @@ try the whole tool on this machine
 
 --codes LISTS is a TOML file of code lists. A list that isn't in it, and isn't
 built in, allows every code. Without it validate goes by currencies, countries
-and media types that are built in. --extension TERMS is a TOML file of further
-terms, EXT-1 to EXT-99, with the places of their elements. Options stand before
-FILE, in any order. A word that begins with -- is never a file; ./--name is one.
+and media types that are built in. --extension TERMS is a TOML file of
+extension terms, EXT-1 to EXT-99, with the places of their elements. Options
+stand before FILE, in any order. A word that begins with -- is never a file;
+./--name is one.
 
 einv --help prints this page, einv --version the version and that of the rules.
 
@@ -56,8 +59,9 @@ status
   1  validate or check found something fatal, or totals a difference
   2  the words fit no command
   3  the document is refused
-  4  a rule file, code lists, further terms, a phase or an expression is refused
-  5  the syntax can't carry the invoice, or there is no such attached document
+  4  a rule file, code lists, extension terms, a phase or an expression is refused
+  5  the syntax can't carry the invoice, something would be lost with --whole,
+     or there is no such attached document
   6  a file couldn't be opened or read
   7  standard output couldn't be written
   8  memory ran out

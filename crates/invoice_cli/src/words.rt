@@ -21,6 +21,8 @@ pub(crate) enum Command<'w> {
     /// With such files.
     Totals(Sources<'w>, &'w str),
     Convert(Syntax, Sources<'w>, &'w str),
+    /// The same, where nothing of the document is lost.
+    ConvertWhole(Syntax, Sources<'w>, &'w str),
     /// Whether the report is to be SVRL, the phase, if one is named, and the document. The rule files are named beside.
     Check(bool, Option<&'w str>, &'w str),
     /// Whether the report is to be SVRL, the files beside the document, and the document.
@@ -192,8 +194,19 @@ fn convert_with<'w>(given: &Given<'w>, number: u64, words: &'w [String]) -> Comm
         return Command::BadWord(number);
     };
     match last_operand(number, words) {
-        Ok(file) => Command::Convert(syntax, given.sources, file),
+        Ok(file) => conversion(given, syntax, file),
         Err(number) => Command::BadWord(number),
+    }
+}
+
+/// The conversion of a file to a syntax.
+fn conversion<'w>(given: &Given<'w>, syntax: Syntax, file: &'w str) -> Command<'w>
+    ensures { asked_by [] result ≡ spec.conversion given.now.whole syntax (spec.sources (given_options given.now)) file.now }
+{
+    if given.whole {
+        Command::ConvertWhole(syntax, given.sources, file)
+    } else {
+        Command::Convert(syntax, given.sources, file)
     }
 }
 

@@ -17,7 +17,7 @@ use Rattle.bind_meaning.specs.declared.tables.Syntax.{Syntax}
 use Rattle.bind_carrying.specs.declared.carrying.NotCarried.{NotCarried}
 use Rattle.bind_carrying.specs.Carrying.{carrying}
 use Rattle.bind_run.specs.Extensions.{rows_for, judged, AreGood}
-use Rattle.bind_run.specs.Reading.{invoice_by}
+use Rattle.bind_run.specs.Reading.{first_lost, invoice_by}
 use Rattle.written_laws.specs.Texts.{exactly}
 use Rattle.extension_laws.specs.Texts.{AreOpen, AreReadBy, IsCarriedIn, target_rows, text_by, tree_by}
 use Rattle.job_protocol.specs.declared.status.Status.TheVariants as statuses
@@ -25,10 +25,13 @@ use Rattle.job_protocol.specs.Protocol.{Answer, Protocol, done, refusal, answer_
 use Rattle.job_protocol.specs.Runs.{EndsIn}
 use Rattle.job_protocol.specs.Views.{document_read}
 use Rattle.invoice_jobs.proofs.EndLemmas.{end_is_answer, document_done, lists_done, terms_done, answer_ends}
-use Rattle.invoice_jobs.specs.Sources.{Sources, ReadingProfile, extended_protocol}
+use Rattle.xml_state.specs.declared.fault.XmlFault.{XmlFault}
+use Rattle.node_arena.specs.Document.{Document}
+use Rattle.invoice_jobs.specs.Sources.{Sources, ReadingProfile, extended_protocol, listed_protocol, profile_protocol, with_terms}
 use Rattle.invoice_jobs.specs.Invoices.{invoice_line, condition_line, by_invoice, invoice_protocol, by_carrying, converted, convert_protocol}
+use Rattle.invoice_jobs.specs.Invoices.{by_loss, convert_whole_protocol, lost_line, whole_invoice_protocol}
 use Rattle.invoice_jobs.specs.Conversions.{AreLists, built_in, of_file, AreTerms, none, of_a_file, AreReadAs, IsCarriedBy, text_of_invoice, IsDocumentText}
-use Rattle.invoice_jobs.specs.Conversions.{IsConverted, AreAccepted, AreAddedOrNone, IsConvertedThere}
+use Rattle.invoice_jobs.specs.Conversions.{IsConverted, AreAccepted, AreAddedOrNone, IsConvertedThere, IsConvertedWhole}
 
 -- ---- the ends of what follows by an invoice
 
@@ -55,6 +58,43 @@ invoice-done held file found next (Err fault) n a ended good =
     let refused = ap (λ (x : Answer). x.status) (end_is_answer held (refusal statuses.DocumentRefused (invoice_line file (document_read found) fault)) a n
     ended) in
     absurd (let z : statuses.DocumentRefused ≡ statuses.Done = sym refused ∙ good in cc)
+
+-- Nothing was lost.
+loss-done : (held : Option Files) (document : Document) (next : Protocol) (lost : Option ℕ) (n : ℕ) (a : Answer)
+    → EndsIn held (by_loss document next lost) n a → a.status ≡ statuses.Done → (lost ≡ None) × EndsIn held next n a
+loss-done held document next None n a ended good = (refl, ended)
+loss-done held document next (Some k) n a ended good =
+    let refused = ap (λ (x : Answer). x.status) (end_is_answer held (refusal statuses.Unable (lost_line document k)) a n ended) in
+    absurd (let z : statuses.Unable ≡ statuses.Done = sym refused ∙ good in cc)
+
+same-found : (a b : profile.Document) → ◌≡◌ {A = Result profile.Document XmlFault} (Ok a) (Ok b) → a ≡ b
+same-found a b e = cc
+
+-- The files beside the document were accepted, and what follows by them ends with the answer.
+module _ (held : Option Files) (codes_file extension_file : Option (List ℕ)) (a : Answer) (good : a.status ≡ statuses.Done) (R : Type 0)
+    (protocol : ReadingProfile → Protocol) (no_terms : AreGood [])
+    (terms_good : (bytes : List ℕ) (terms : List ExtTerm) → file_terms bytes ≡ Ok terms → judged (rows_for terms) ≡ Ok tt → AreGood terms)
+    (follows : (p : ReadingProfile) (m : ℕ) → AreAccepted held codes_file p.lists → AreAddedOrNone held extension_file p.terms → AreGood p.terms
+    → EndsIn held (protocol p) m a → R)
+  where
+    added-done : (o : Option (List ℕ)) → o ≡ extension_file → (lists : Lists) (n : ℕ) → AreAccepted held codes_file lists
+        → EndsIn held (extended_protocol o (λ terms. protocol (record { lists = lists; terms = terms }))) n a → R
+    added-done None e lists n accepted ended =
+        follows (record { lists = lists; terms = [] }) n accepted (subst (λ x. AreAddedOrNone held x []) e refl) no_terms ended
+    added-done (Some name) e lists n accepted ended =
+        let t = terms_done held name (λ terms. protocol (record { lists = lists; terms = terms })) n a ended good in
+        follows (record { lists = lists; terms = t.terms }) t.count accepted (subst (λ x. AreAddedOrNone held x t.terms) e t.are)
+        (terms_good t.are.content t.terms t.are.are t.are.good) t.ends_in
+
+    lists-done : (o : Option (List ℕ)) → o ≡ codes_file → (n : ℕ)
+        → EndsIn held (with_terms (listed_protocol o) extension_file protocol) n a → R
+    lists-done None e n ended = added-done extension_file refl built_in_lists n (subst (λ x. AreAccepted held x built_in_lists) e refl) ended
+    lists-done (Some name) e n ended =
+        let l = lists_done held name (λ lists. extended_protocol extension_file (λ terms. protocol (record { lists = lists; terms = terms }))) n a ended good in
+        added-done extension_file refl l.lists l.count (subst (λ x. AreAccepted held x l.lists) e l.are) l.ends_in
+
+    profile-done : (n : ℕ) → EndsIn held (profile_protocol (record { codes_file = codes_file; extension_file = extension_file }) protocol) n a → R
+    profile-done n ended = lists-done codes_file refl n ended
 
 -- What is read and carried is written as a document, and that is read as it.
 pub text-of : ((bytes : List ℕ) (reading_profile : ReadingProfile) (read : Read) → AreGood reading_profile.terms → AreReadAs bytes reading_profile read
@@ -115,35 +155,52 @@ module _
           gives = record { carried = c.0; answer_is = c.1; text = texts d.content reading_profile i.read syntax terms_are is c.0 };
         }
 
-    by-lists : (held : Option Files) (syntax : Syntax) (codes_file extension_file : Option (List ℕ)) (file : List ℕ) (lists : Lists) (n : ℕ) (a : Answer)
-        → AreAccepted held codes_file lists
-        → EndsIn held (extended_protocol extension_file (λ terms. invoice_protocol file (record { lists = lists; terms = terms })
-        (λ read. converted syntax (record { reading_profile = record { lists = lists; terms = terms }; read = read })))) n a
-        → a.status ≡ statuses.Done → IsConvertedThere held syntax (record { codes_file = codes_file; extension_file = extension_file }) file a
-    by-lists held syntax codes_file None file lists n a accepted ended good =
-        by-reading_profile held syntax (record { codes_file = codes_file; extension_file = None }) file (record { lists = lists; terms = [] }) n a accepted
-        refl no_terms
-        ended good
-    by-lists held syntax codes_file (Some name) file lists n a accepted ended good =
-        let t = terms_done held name (λ terms. invoice_protocol file (record { lists = lists; terms = terms })
-        (λ read. converted syntax (record { reading_profile = record { lists = lists; terms = terms }; read = read }))) n a ended good in
-        by-reading_profile held syntax (record { codes_file = codes_file; extension_file = Some name }) file (record { lists = lists; terms = t.terms })
-        t.count a
-        accepted t.are
-        (terms_good t.are.content t.terms t.are.are t.are.good) t.ends_in good
-
-    by-files : (held : Option Files) (syntax : Syntax) (codes_file extension_file : Option (List ℕ)) (file : List ℕ) (n : ℕ) (a : Answer)
-        → EndsIn held (convert_protocol syntax (record { codes_file = codes_file; extension_file = extension_file }) file) n a → a.status ≡ statuses.Done
-        → IsConvertedThere held syntax (record { codes_file = codes_file; extension_file = extension_file }) file a
-    by-files held syntax None extension_file file n a ended good = by-lists held syntax None extension_file file built_in_lists n a refl ended good
-    by-files held syntax (Some name) extension_file file n a ended good =
-        let l = lists_done held name (λ lists. extended_protocol extension_file (λ terms. invoice_protocol file (record { lists = lists; terms = terms })
-        (λ read. converted syntax (record { reading_profile = record { lists = lists; terms = terms }; read = read })))) n a ended good in
-        by-lists held syntax (Some name) extension_file file l.lists l.count a l.are l.ends_in good
-
     pub convert-ended : (held : Option Files) (syntax : Syntax) (sources : Sources) (file : List ℕ) (n : ℕ) (a : Answer)
         → EndsIn held (convert_protocol syntax sources file) n a → a.status ≡ statuses.Done → IsConvertedThere held syntax sources file a
-    convert-ended held syntax sources file n a ended good = by-files held syntax sources.codes_file sources.extension_file file n a ended good
+    convert-ended held syntax sources file n a ended good =
+        profile-done held sources.codes_file sources.extension_file a good (IsConvertedThere held syntax sources file a)
+        (λ p. invoice_protocol file p (λ read. converted syntax (record { reading_profile = p; read = read }))) no_terms terms_good
+        (λ p m accepted added terms_are ends. by-reading_profile held syntax sources file p m a accepted added terms_are ends good) n ended
+
+    -- ---- the same, where nothing of the document may be lost
+
+    by-whole_profile : (held : Option Files) (syntax : Syntax) (sources : Sources) (file : List ℕ) (reading_profile : ReadingProfile) (n : ℕ) (a : Answer)
+        → AreAccepted held sources.codes_file reading_profile.lists
+        → AreAddedOrNone held sources.extension_file reading_profile.terms → AreGood reading_profile.terms
+        → EndsIn held (whole_invoice_protocol file reading_profile (λ read. converted syntax (record { reading_profile = reading_profile; read = read }))) n a
+        → a.status ≡ statuses.Done
+        → IsConvertedWhole held syntax sources file a
+    by-whole_profile held syntax sources file reading_profile n a accepted added terms_are ended good =
+        let next : Read → Protocol = λ read. converted syntax (record { reading_profile = reading_profile; read = read }) in
+        let lost : profile.Document → Option ℕ = λ found. first_lost (rows_for reading_profile.terms) (tree_nodes (document_read found)) in
+        let d = document_done held file (λ found. by_invoice file (document_read found) (λ read. by_loss (document_read found) (next read) (lost found))
+        (invoice_by (rows_for reading_profile.terms) (tree_nodes (document_read found)) reading_profile.lists)) n a ended good in
+        let i = invoice-done held file d.found (λ read. by_loss (document_read d.found) (next read) (lost d.found))
+        (invoice_by (rows_for reading_profile.terms) (tree_nodes (document_read d.found)) reading_profile.lists) d.count a d.ends_in good in
+        let l = loss-done held (document_read d.found) (next i.read) (lost d.found) i.count a i.ends_in good in
+        let c = carrying-done held (text_of_invoice syntax reading_profile i.read.entries)
+        (carrying (target_rows (rows_for reading_profile.terms) syntax i.read.entries) i.read.entries) i.count a l.1 good in
+        let is : AreReadAs d.content reading_profile i.read = record { found = d.found; is = d.is; invoice = i.is } in
+        record {
+          converted = record {
+            reading_profile = reading_profile;
+            lists_are = accepted;
+            terms_are = added;
+            content = d.content;
+            of_file = d.of_file;
+            read = i.read;
+            read_as = is;
+            gives = record { carried = c.0; answer_is = c.1; text = texts d.content reading_profile i.read syntax terms_are is c.0 };
+          };
+          whole = λ found found_is. ap lost (same-found found d.found (sym found_is ∙ d.is)) ∙ l.0;
+        }
+
+    pub whole-ended : (held : Option Files) (syntax : Syntax) (sources : Sources) (file : List ℕ) (n : ℕ) (a : Answer)
+        → EndsIn held (convert_whole_protocol syntax sources file) n a → a.status ≡ statuses.Done → IsConvertedWhole held syntax sources file a
+    whole-ended held syntax sources file n a ended good =
+        profile-done held sources.codes_file sources.extension_file a good (IsConvertedWhole held syntax sources file a)
+        (λ p. whole_invoice_protocol file p (λ read. converted syntax (record { reading_profile = p; read = read }))) no_terms terms_good
+        (λ p m accepted added terms_are ends. by-whole_profile held syntax sources file p m a accepted added terms_are ends good) n ended
 
 -- ---- where the files are told
 

@@ -5,14 +5,18 @@ use Rattle.code_lists.specs.CodeFiles.{Lists, built_in_lists, file_lists}
 use Rattle.extension_files.specs.declared.terms.ExtTerm.{ExtTerm}
 use Rattle.extension_files.specs.ExtensionFiles.{file_terms}
 use Rattle.inv_terms.specs.declared.entries.Entry.{Entry}
-use Rattle.xml_profile.specs.Profile.{IsXml}
+use Rattle.xml_profile.specs.Profile.{IsXml, document}
+use Rattle.xml_profile.specs.Profile as profile
+use Rattle.node_arena.specs.Moves.{tree_nodes}
 use Rattle.bind_meaning.specs.Terms.{Read}
 use Rattle.bind_meaning.specs.declared.tables.Syntax.{Syntax}
 use Rattle.bind_run.specs.Extensions.{rows_for, judged}
+use Rattle.bind_run.specs.Reading.{first_lost}
 use Rattle.written_laws.specs.Texts.{exactly}
 use Rattle.extension_laws.specs.Texts.{tree_by, text_by, IsCarriedIn, AreReadBy}
 use Rattle.job_protocol.specs.Protocol.{Answer, done, is_within, list_limit, document_limits}
 use Rattle.job_protocol.specs.Runs.{IsContentOf, AreListed}
+use Rattle.job_protocol.specs.Views.{document_read}
 use Rattle.invoice_jobs.specs.Sources.{Sources, ReadingProfile}
 
 -- ---- what the files beside a document give
@@ -101,3 +105,15 @@ pub record IsConvertedThere (held : Option Files) (syntax : Syntax) (sources : S
   pub read : Read
   pub read_as : AreReadAs content reading_profile read
   pub gives : IsConversion syntax reading_profile read answer
+
+-- ---- where nothing may be lost
+
+-- Nothing of such a document is lost by these terms: no element is passed over, and no element or attribute of the table is unread.
+abbrev pub NothingIsLost : List ℕ → ReadingProfile → Type 0
+NothingIsLost content reading_profile = (found : profile.Document) → document document_limits content ≡ Ok found
+    → first_lost (rows_for reading_profile.terms) (tree_nodes (document_read found)) ≡ None
+
+-- The answer is that of a conversion, and nothing of the document was lost.
+pub record IsConvertedWhole (held : Option Files) (syntax : Syntax) (sources : Sources) (file : List ℕ) (answer : Answer) : Type 0 where
+  pub converted : IsConvertedThere held syntax sources file answer
+  pub whole : NothingIsLost converted.content converted.reading_profile

@@ -1,5 +1,5 @@
 -- What is answered to a job that reads an invoice.
-use Rattle.std.specs.Prelude.{◌≡◌, ◌≢◌, ℕ, List, [], ◌∷◌, ◌++◌, codes, decimal, encode_utf8_all, Result}
+use Rattle.std.specs.Prelude.{◌≡◌, ◌≢◌, ℕ, List, [], ◌∷◌, ◌++◌, codes, decimal, encode_utf8_all, Option, Some, None, Result}
 use Rattle.std.proofs.Common.{◌⊎◌}
 use Rattle.inv_base.specs.Outside.{SinkView}
 use Rattle.inv_terms.specs.declared.attachments.AttachFault.{AttachFault}
@@ -10,7 +10,10 @@ use Rattle.inv_listing.specs.Listing.{name_text, listing}
 use Rattle.json_text.specs.Layout.{document}
 use Rattle.invoice_json.specs.InvoiceJson.{invoice_json}
 use Rattle.node_arena.specs.Document.{Document, node_at}
-use Rattle.node_arena.specs.Moves.{tree_nodes}
+use Rattle.inv_base.specs.Tree.{Node}
+use Rattle.inv_base.specs.declared.tree.Kind.{Kind}
+use Rattle.inv_base.specs.declared.tree.Kind.TheVariants as node_kinds
+use Rattle.node_arena.specs.Moves.{tree_node, tree_nodes}
 use Rattle.bind_meaning.specs.declared.fault.BindFault.{BindFault}
 use Rattle.bind_meaning.specs.declared.fault.BindKind.TheVariants as kinds
 use Rattle.bind_meaning.specs.KindTexts.{kind_text}
@@ -20,7 +23,7 @@ use Rattle.bind_meaning.specs.declared.tables.Syntax.{Syntax}
 use Rattle.bind_carrying.specs.Carrying.{carrying}
 use Rattle.bind_run.specs.declared.reading.ReadInvoice.{ReadInvoice}
 use Rattle.bind_run.specs.Extensions.{rows_for}
-use Rattle.bind_run.specs.Reading.{invoice_by}
+use Rattle.bind_run.specs.Reading.{first_lost, invoice_by}
 use Rattle.extension_laws.specs.Texts.{target_rows, text_by}
 use Rattle.job_protocol.specs.declared.status.Status.{Status}
 use Rattle.job_protocol.specs.declared.status.Status.TheVariants as statuses
@@ -89,6 +92,41 @@ converted syntax given =
 
 abbrev pub convert_protocol : Syntax → Sources → List ℕ → Protocol
 convert_protocol syntax sources file = read_protocol sources file (converted syntax)
+
+-- ---- the invoice in a syntax, where nothing of the document is lost
+
+-- what stands in front of the name of such a node
+abbrev pub name_prefix : Kind → List ℕ
+name_prefix kind = elim kind [ node_kinds.Document ↦ [] | node_kinds.Element ↦ [] | node_kinds.Attribute ↦ codes "@" | node_kinds.Text ↦ [] ]
+
+-- the local name of an element, or that of an attribute behind `@`
+abbrev pub node_name : Node → List ℕ
+node_name node = elim node.name [ None ↦ [] | Some name ↦ name_prefix node.kind ++ encode_utf8_all name.local ]
+
+-- the first node that is lost, at the place of its element
+abbrev pub lost_line : Document → ℕ → List ℕ
+lost_line document n = codes "einv: lost at " ++
+    (decimal (node_at document.nodes n).place ++ (0x20 ∷ (node_name (tree_node (tree_nodes document) n) ++ 0xA ∷ [])))
+
+-- what follows where nothing is lost
+abbrev pub by_loss : Document → Protocol → Option ℕ → Protocol
+by_loss document next None = next
+by_loss document next (Some n) = ends (refusal statuses.Unable (lost_line document n))
+
+-- the invoice of a document of which nothing is lost, by these lists and terms, and what follows by it
+abbrev pub whole_invoice_protocol : List ℕ → ReadingProfile → (Read → Protocol) → Protocol
+whole_invoice_protocol file reading_profile next =
+    document_protocol file (λ found. by_invoice file (document_read found)
+    (λ read. by_loss (document_read found) (next read) (first_lost (rows_for reading_profile.terms) (tree_nodes (document_read found))))
+    (invoice_by (rows_for reading_profile.terms) (tree_nodes (document_read found)) reading_profile.lists))
+
+abbrev pub whole_protocol : Sources → List ℕ → (Given → Protocol) → Protocol
+whole_protocol sources file next =
+    profile_protocol sources (λ reading_profile. whole_invoice_protocol file reading_profile
+    (λ read. next (record { reading_profile = reading_profile; read = read })))
+
+abbrev pub convert_whole_protocol : Syntax → Sources → List ℕ → Protocol
+convert_whole_protocol syntax sources file = whole_protocol sources file (converted syntax)
 
 -- ---- an attached document
 

@@ -1,4 +1,4 @@
--- The files beside the document of a job on an invoice, and what they give: code lists, and terms that a user adds.
+-- The files beside the document of a job on an invoice, and what they give: code lists, and extension terms.
 use Rattle.std.specs.Prelude.{◌≡◌, ℕ, List, [], ◌∷◌, ◌++◌, codes, decimal, encode_utf8_all, Option, Some, None, Result, Err}
 use Rattle.std.specs.Option.{option_map}
 use Rattle.std.proofs.Common.{◌⊎◌}
@@ -32,7 +32,7 @@ pub record Sources : Type 0 where
 abbrev pub no_sources : Sources
 no_sources = record { codes_file = None; extension_file = None }
 
--- what an invoice is read and written by: the code lists, and the terms that a user adds
+-- what an invoice is read and written by: the code lists, and the extension terms
 pub record ReadingProfile : Type 0 where
   pub lists : Lists
   pub terms : List ExtTerm

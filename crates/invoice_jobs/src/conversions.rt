@@ -12,9 +12,9 @@ ghost use Rattle.job_protocol.specs.declared.status.Status.TheVariants as status
 ghost use Rattle.job_protocol.specs.Protocol.{Answer, answer_of};
 ghost use Rattle.job_protocol.specs.Runs.{EndsIn};
 ghost use Rattle.invoice_jobs.specs.Sources.{Sources, ReadingProfile};
-ghost use Rattle.invoice_jobs.specs.Invoices.{convert_protocol};
+ghost use Rattle.invoice_jobs.specs.Invoices.{convert_protocol, convert_whole_protocol};
 ghost use Rattle.invoice_jobs.specs.Conversions.{AreReadAs, IsProfile, IsReadAs, IsCarriedBy, Holds, text_of_invoice, IsDocumentText, IsConverted};
-ghost use Rattle.invoice_jobs.specs.Conversions.{IsConvertedThere};
+ghost use Rattle.invoice_jobs.specs.Conversions.{IsConvertedThere, IsConvertedWhole};
 
 use cii_binding::cii_is_well_formed;
 use extension_files::file_terms_are_extensions;
@@ -85,7 +85,7 @@ pub fn converted_texts_are_documents()
 
 /// Converting is done only where the files beside the document were accepted, it was read by them as an invoice and the syntax
 /// carries that; what was answered then is such a text. So it is of files that are told, and of some content of each file
-/// where they aren't. The law has no code.
+/// where they aren't. Where nothing may be lost it is done only where nothing is. The law has no code.
 pub fn done_conversions_are_documents()
     ensures told { (files : Files) (syntax : Syntax) (sources : Sources) (file : List ℕ)
         → (answer_of (convert_protocol syntax sources file) files).status ≡ statuses.Done
@@ -93,6 +93,9 @@ pub fn done_conversions_are_documents()
     ensures ended { (held : Option Files) (syntax : Syntax) (sources : Sources) (file : List ℕ) (count : ℕ) (answer : Answer)
         → EndsIn held (convert_protocol syntax sources file) count answer → answer.status ≡ statuses.Done
         → IsConvertedThere held syntax sources file answer }
+    ensures whole { (held : Option Files) (syntax : Syntax) (sources : Sources) (file : List ℕ) (count : ℕ) (answer : Answer)
+        → EndsIn held (convert_whole_protocol syntax sources file) count answer → answer.status ≡ statuses.Done
+        → IsConvertedWhole held syntax sources file answer }
 {
     file_terms_are_extensions();
     no_terms_are_good();

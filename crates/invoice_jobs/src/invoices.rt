@@ -9,12 +9,16 @@ ghost use Rattle.job_protocol.specs.Runs.{Runs, Continues, Fails};
 ghost use Rattle.invoice_jobs.specs.Sources.{profile_of, sources_of};
 ghost use Rattle.invoice_jobs.specs.Invoices.{read_of, given_of, IsInvoiceRefusal, invoice_protocol, read_protocol, show_protocol, converted, convert_protocol};
 ghost use Rattle.invoice_jobs.specs.Invoices.{extracted, extract_protocol, listing_in};
+ghost use Rattle.invoice_jobs.specs.Invoices.{convert_whole_protocol, whole_invoice_protocol, whole_protocol};
 ghost use Rattle.inv_base.specs.Printing.{Printed};
 
 use crate::formats::AnswerFormat;
-use crate::refusals::{tell_attach_fault, tell_condition, tell_invoice_fault};
+use crate::refusals::{tell_attach_fault, tell_condition, tell_invoice_fault, tell_loss};
 use crate::sources::{NO_SOURCES, ReadingProfile, Sources, load_profile};
-use bind_run::{BindFault, BindKind, ReadInvoice, Syntax, carries, read_document, target, write};
+use bind_run::{
+    BindFault, BindKind, ReadInvoice, Syntax, WholeRead, carries, read_document,
+    read_document_whole, target, write,
+};
 use bind_table::Binding;
 use bumpalo::Bump;
 use extension_laws::extended_tables_are_laid;
@@ -115,6 +119,70 @@ pub(crate) fn load<S: Shelf, E: Sink>(
     }
 }
 
+/// The invoice of a file of which nothing is lost, or the status with which the job ends.
+fn load_whole_invoice<S: Shelf, E: Sink>(
+    alloc: Global,
+    reading_profile: &ReadingProfile,
+    file: &str,
+    shelf: &mut S,
+    err: &mut E,
+) -> Result<ReadInvoice, Status>
+    requires tables { AreTablesFor reading_profile.now.extension reading_profile.now.tables }
+    requires good { AreGood reading_profile.now.extension }
+    ensures goes_on { IfOk result (λ read. Continues (whole_invoice_protocol file.now (profile_of reading_profile.now)) (read_of read)
+        (S.view shelf.old) (S.view shelf.new) (E.view err.old) (E.view err.new)) }
+    ensures fails { IfErr result (λ status. Fails (whole_invoice_protocol file.now (profile_of reading_profile.now)) status
+        (S.view shelf.old) (S.view shelf.new) (E.view err.old) (E.view err.new)) }
+{
+    let bump = Bump::new(alloc);
+    let doc = match load_document(alloc, &bump, shelf, file, err) {
+        Ok(doc) => doc,
+        Err(status) => return Err(status),
+    };
+    match read_document_whole(alloc, &doc, &reading_profile.tables, &reading_profile.lists) {
+        Ok(WholeRead { read, lost }) => match lost {
+            None => Ok(read),
+            Some(n) => {
+                drop(read);
+                tell_loss(&doc, n, err);
+                Err(Status::Unable)
+            }
+        },
+        Err(fault) => Err(refuse_invoice(&doc, file, &fault, err)),
+    }
+}
+
+/// The same as `load`, where nothing of the document is lost.
+fn load_whole<S: Shelf, E: Sink>(
+    alloc: Global,
+    sources: &Sources<'_>,
+    file: &str,
+    shelf: &mut S,
+    err: &mut E,
+) -> Result<Loaded, Status>
+    ensures tables { IfOk result (λ loaded. AreTablesFor loaded.reading_profile.extension loaded.reading_profile.tables) }
+    ensures good { IfOk result (λ loaded. AreGood loaded.reading_profile.extension) }
+    ensures goes_on { IfOk result (λ loaded. Continues (whole_protocol (sources_of sources.now) file.now) (given_of loaded)
+        (S.view shelf.old) (S.view shelf.new) (E.view err.old) (E.view err.new)) }
+    ensures fails { IfErr result (λ status. Fails (whole_protocol (sources_of sources.now) file.now) status
+        (S.view shelf.old) (S.view shelf.new) (E.view err.old) (E.view err.new)) }
+{
+    let reading_profile = match load_profile(alloc, sources, shelf, err) {
+        Ok(reading_profile) => reading_profile,
+        Err(status) => return Err(status),
+    };
+    match load_whole_invoice(alloc, &reading_profile, file, shelf, err) {
+        Ok(read) => Ok(Loaded {
+            reading_profile,
+            read,
+        }),
+        Err(status) => {
+            drop(reading_profile);
+            Err(status)
+        }
+    }
+}
+
 /// Lists the terms of an invoice.
 pub fn show<S: Shelf, O: Sink, E: Sink>(
     alloc: Global,
@@ -165,6 +233,26 @@ pub fn convert<S: Shelf, O: Sink, E: Sink>(
         (record { shelf = S.view shelf.new; out = O.view out.new; err = E.view err.new }) result }
 {
     match load(alloc, sources, file, shelf, err) {
+        Ok(loaded) => write_converted(alloc, &loaded, syntax, out, err),
+        Err(status) => status,
+    }
+}
+
+/// Writes an invoice in a syntax, where nothing of its document is lost; else the first that is lost is told, and nothing is written.
+pub fn convert_whole<S: Shelf, O: Sink, E: Sink>(
+    alloc: Global,
+    syntax: Syntax,
+    sources: &Sources<'_>,
+    file: &str,
+    shelf: &mut S,
+    out: &mut O,
+    err: &mut E,
+) -> Status
+    ensures { Runs (convert_whole_protocol syntax (sources_of sources.now) file.now)
+        (record { shelf = S.view shelf.old; out = O.view out.old; err = E.view err.old })
+        (record { shelf = S.view shelf.new; out = O.view out.new; err = E.view err.new }) result }
+{
+    match load_whole(alloc, sources, file, shelf, err) {
         Ok(loaded) => write_converted(alloc, &loaded, syntax, out, err),
         Err(status) => status,
     }

@@ -15,5 +15,5 @@ pub use conversions::{
     done_conversions_are_documents, read_files_are_valid_invoices,
 };
 pub use formats::AnswerFormat;
-pub use invoices::{convert, extract, refuse_invoice, show};
+pub use invoices::{convert, convert_whole, extract, refuse_invoice, show};
 pub use sources::{Extended, NO_SOURCES, ReadingProfile, Sources, load_extended};

@@ -3,16 +3,17 @@ ghost use Rattle.std.specs.Prelude.{◌≡◌, ◌<◌, length};
 ghost use Rattle.inv_base.specs.Printing.{Prints};
 ghost use Rattle.job_protocol.specs.Outside.{TakesOrFails};
 ghost use Rattle.invoice_jobs.specs.Sources.{term_or_dash, extension_line, extension_fault_text, bad_row_line, table_kind_text};
-ghost use Rattle.invoice_jobs.specs.Invoices.{invoice_line, condition_line, attachment_line, attach_fault_text};
+ghost use Rattle.node_arena.specs.Moves.{tree_node, tree_nodes};
+ghost use Rattle.invoice_jobs.specs.Invoices.{lost_line, node_name, name_prefix, invoice_line, condition_line, attachment_line, attach_fault_text};
 
 use bind_run::{BadRow, BindFault, NotCarried};
 use bind_table::TableKind;
 use extension_files::ExtFault;
-use inv_base::{Printer, Sink};
+use inv_base::{Kind, Printer, Sink};
 use inv_listing::{print_name, print_term};
 use inv_terms::AttachFault;
 use itoa::Buffer;
-use node_arena::Doc;
+use node_arena::{Doc, NodeId};
 use term_table::Term;
 
 /// Tells why a document isn't an invoice, and where.
@@ -43,6 +44,41 @@ pub(crate) fn tell_condition<E: Sink>(fault: &NotCarried, err: &mut E)
     printer.put(err, b" ");
     print_term_or_dash(fault.term, &mut printer, err);
     printer.put(err, b"\n");
+}
+
+/// Tells the first node of a document that isn't in its invoice, at the place of its element.
+pub(crate) fn tell_loss<E: Sink>(doc: &Doc<'_>, n: NodeId, err: &mut E)
+    requires { n < length doc.now.nodes }
+    ensures { TakesOrFails (lost_line doc.now n) (E.view err.old) (E.view err.new) }
+{
+    let mut digits = Buffer::new();
+    let mut printer = Printer::new();
+    printer.put(err, b"einv: lost at ");
+    printer.put(err, digits.format(doc.place(n).byte).as_bytes());
+    printer.put(err, b" ");
+    print_node_name(doc, n, &mut printer, err);
+    printer.put(err, b"\n");
+}
+
+/// Prints the local name of an element, or that of an attribute behind `@`.
+fn print_node_name<E: Sink>(doc: &Doc<'_>, n: NodeId, printer: &mut Printer, err: &mut E)
+    requires { n < length doc.now.nodes }
+    ensures { Prints (node_name (tree_node (tree_nodes doc.now) n)) printer.old.failed printer.new.failed (E.view err.old) (E.view err.new) }
+{
+    if let Some(name) = doc.name(n) {
+        printer.put(err, name_prefix(doc.kind(n)).as_bytes());
+        printer.put(err, doc.names().local(name).as_bytes());
+    }
+}
+
+/// What stands in front of the name of such a node.
+fn name_prefix(kind: Kind) -> &'static str
+    ensures { result.now ≡ name_prefix kind }
+{
+    match kind {
+        Kind::Attribute => "@",
+        Kind::Document | Kind::Element | Kind::Text => "",
+    }
 }
 
 fn print_term_or_dash<E: Sink>(term: Option<Term>, printer: &mut Printer, err: &mut E)

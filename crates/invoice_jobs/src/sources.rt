@@ -1,4 +1,4 @@
-//! The files beside the document of a job on an invoice, and what they give: code lists, and terms that a user adds. Where
+//! The files beside the document of a job on an invoice, and what they give: code lists, and extension terms. Where
 //! one can't be had, its line is told and the status answered.
 ghost use Rattle.std.specs.Prelude.{◌≡◌, [], IfOk, IfErr, option_map};
 ghost use Rattle.bind_run.specs.Extensions.{judged, rows_for, AreGood};
@@ -23,7 +23,7 @@ use std::alloc::Global;
 pub struct Sources<'w> {
     /// The file of code lists.
     pub codes_file: Option<&'w str>,
-    /// The file of terms that a user adds.
+    /// The file of extension terms.
     pub extension_file: Option<&'w str>,
 }
 
@@ -33,7 +33,7 @@ pub const NO_SOURCES: Sources<'static> = Sources {
     extension_file: None,
 };
 
-/// What an invoice is read and written by: the code lists, the terms that a user adds, and the three tables with them.
+/// What an invoice is read and written by: the code lists, the extension terms, and the three tables with them.
 pub struct ReadingProfile {
     pub lists: CodeLists,
     pub extension: Extension,
@@ -53,7 +53,7 @@ impl Drop for ReadingProfile {
     }
 }
 
-/// The terms of a user, and the three tables with them.
+/// The extension terms, and the three tables with them.
 pub struct Extended {
     pub extension: Extension,
     pub tables: Tables,

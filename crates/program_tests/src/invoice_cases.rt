@@ -98,6 +98,8 @@ fn invoices_are_converted(rt: HostRuntime) -> Result<(), Fail> {
     expect(plain, "convert")?;
     let listed = is_converted(rt.alloc(), "convert --codes eur --to ubl f")?;
     expect(listed, "convert --codes")?;
+    let whole = is_converted(rt.alloc(), "convert --whole --to ubl f")?;
+    expect(whole, "convert --whole")?;
     let extended = is_converted(rt.alloc(), "convert --extension brand --to ubl f")?;
     expect(extended, "convert --extension")
 }
@@ -124,6 +126,11 @@ show --extension named --codes spaced f|4|spaced: BadCode currency|A1|A1
 convert --to ubl --extension absent f|6|absent: read fault|A1|A1
 extract --extension brand 1 f|2|bad word 2|A1|A1
 show absent|6|absent: read fault|A1|A1
+convert --whole --to cii f|3|f: BadValue BT-2 at 323|2024-05-01|2024-5-01
+convert --whole --to cii f|5|lost at 304 @schemeID|<cbc:ID>A1|<cbc:ID schemeID=\"x\">A1
+convert --to cii --whole f|5|lost at 304 UBLVersionID|<cbc:ID>A1|<cbc:UBLVersionID>2.1</cbc:UBLVersionID><cbc:ID>A1
+convert --whole --to cii f|5|lost at 0 Invoice|<cbc:ID>A1|beside<cbc:ID>A1
+convert --whole f|2|bad word 3|A1|A1
 convert --to ubl f|5|condition 6 BT-83|<cac:TaxTotal>|<cac:PaymentMeans><cbc:PaymentID>x</cbc:PaymentID></cac:PaymentMeans><cac:TaxTotal>
 extract 1 f|5|attachment 1: NoSuch|A1|A1
 show f g|2|bad word 3|A1|A1
@@ -146,7 +153,7 @@ fn invoices_are_refused(rt: HostRuntime) -> Result<(), Fail> {
     expect_rows(rt.alloc(), &Refusals, REFUSALS)
 }
 
-/// The calls that open the lists, read them and find their end, those of the further terms, and those of the invoice.
+/// The calls that open the lists, read them and find their end, those of the extension terms, and those of the invoice.
 #[test]
 fn each_failing_call_is_told(rt: HostRuntime) -> Result<(), Fail> {
     let words = "convert --to cii --extension brand --codes eur f";

@@ -17,13 +17,15 @@ use std::sync::ledger::{Blank, Ledger};
 use std::test::Fail;
 use term_table::{Group, Term};
 use test_rows::{Holds, expect, expect_rows};
-use validation_report::Validation;
+use validation_report::{ReadingFindings, Validation};
 use xpath_items::DynError;
 
-/// A document whose root stands at 4:1, and whose elements stand at 8:3 and 12:3; one of its lines ends with CR LF.
+/// A document whose root stands at 4:1, and whose elements stand at 8:3 and 12:3; one of its lines ends with CR LF. The second
+/// element has 61 characters between white space, in two texts around an element.
 const DOCUMENT: &str =
     "<?xml version=\"1.0\"?>\n\n\n<Invoice xmlns=\"urn:x\">\r\n\n\n\n  <IssueDate>02.03.2026</IssueDate>\n\n\n\n  \
-<Unknown/>\n</Invoice>\n";
+<Unknown code=\" \u{e4} &quot;b&quot; \">\n123456789-123456789-123456789-<b>inside</b>123456789-123456789-123456789-Z\t</Unknown>\n\
+</Invoice>\n";
 
 /// What is wanted of a report: its two texts, and whether it has findings.
 #[derive(Clone, Copy)]
@@ -33,18 +35,54 @@ struct Wanted {
     findings: bool,
 }
 
-/// A fault at the one element, and the other passed over.
+/// A fault at the one element, which is unread too, and the other passed over and misplaced.
 const READING: Wanted = Wanted {
     plain: "\
 fault BadValue BT-2 /*:Invoice[namespace-uri()='urn:x'][1]/*:IssueDate[namespace-uri()='urn:x'][1] at 8:3 \"Invoice issue date\"
 passed over /*:Invoice[namespace-uri()='urn:x'][1]/*:Unknown[namespace-uri()='urn:x'][1] at 12:3
-faults 1, passed over 1, failed 0, reported 0, errors 0, minor 0
+unread /*:Invoice[namespace-uri()='urn:x'][1]/*:IssueDate[namespace-uri()='urn:x'][1] at 8:3 \"02.03.2026\"
+misplaced /*:Invoice[namespace-uri()='urn:x'][1]/*:Unknown[namespace-uri()='urn:x'][1] at 12:3
+faults 1, passed over 1, unread 1, misplaced 1, failed 0, reported 0, errors 0, minor 0
 ",
     svrl: "\
 <?xml version=\"1.0\" encoding=\"UTF-8\"?>
 <svrl:schematron-output xmlns:svrl=\"http://purl.oclc.org/dsdl/svrl\"><svrl:active-pattern id=\"reading\"/><svrl:fired-rule context=\"/\"/>\
 <svrl:failed-assert test=\"BadValue\" location=\"/*:Invoice[namespace-uri()='urn:x'][1]/*:IssueDate[namespace-uri()='urn:x'][1]\" id=\"BT-2\" \
-flag=\"fatal\"><svrl:text>Invoice issue date</svrl:text></svrl:failed-assert></svrl:schematron-output>
+flag=\"fatal\"><svrl:text>Invoice issue date</svrl:text></svrl:failed-assert>\
+<svrl:failed-assert test=\"Misplaced\" location=\"/*:Invoice[namespace-uri()='urn:x'][1]/*:Unknown[namespace-uri()='urn:x'][1]\" flag=\"fatal\">\
+<svrl:text>Unknown</svrl:text></svrl:failed-assert></svrl:schematron-output>
+",
+    findings: true,
+};
+
+/// Unread nodes, which count against nothing: the text of an element is cut behind 60 characters, the value of an attribute is
+/// trimmed and quoted.
+const UNREAD: Wanted = Wanted {
+    plain: "\
+unread /*:Invoice[namespace-uri()='urn:x'][1] at 4:1 \"\"
+unread /*:Invoice[namespace-uri()='urn:x'][1]/*:Unknown[namespace-uri()='urn:x'][1] at 12:3 \"123456789-123456789-123456789-123456789-123456789-123456789-..\"
+unread /*:Invoice[namespace-uri()='urn:x'][1]/*:Unknown[namespace-uri()='urn:x'][1]/@*:code[namespace-uri()=''] at 12:3 \"\u{e4} \\\"b\\\"\"
+faults 0, passed over 0, unread 3, misplaced 0, failed 0, reported 0, errors 0, minor 0
+",
+    svrl: "\
+<?xml version=\"1.0\" encoding=\"UTF-8\"?>
+<svrl:schematron-output xmlns:svrl=\"http://purl.oclc.org/dsdl/svrl\"><svrl:active-pattern id=\"reading\"/><svrl:fired-rule context=\"/\"/>\
+</svrl:schematron-output>
+",
+    findings: false,
+};
+
+/// A misplaced element counts against the document by itself.
+const MISPLACED: Wanted = Wanted {
+    plain: "\
+misplaced /*:Invoice[namespace-uri()='urn:x'][1]/*:IssueDate[namespace-uri()='urn:x'][1] at 8:3
+faults 0, passed over 0, unread 0, misplaced 1, failed 0, reported 0, errors 0, minor 0
+",
+    svrl: "\
+<?xml version=\"1.0\" encoding=\"UTF-8\"?>
+<svrl:schematron-output xmlns:svrl=\"http://purl.oclc.org/dsdl/svrl\"><svrl:active-pattern id=\"reading\"/><svrl:fired-rule context=\"/\"/>\
+<svrl:failed-assert test=\"Misplaced\" location=\"/*:Invoice[namespace-uri()='urn:x'][1]/*:IssueDate[namespace-uri()='urn:x'][1]\" flag=\"fatal\">\
+<svrl:text>IssueDate</svrl:text></svrl:failed-assert></svrl:schematron-output>
 ",
     findings: true,
 };
@@ -61,7 +99,7 @@ error FORG0001 D /d at 8:3 \"a \\\"D\\\"\"
 failed A /a at 12:3 \"a \\\"A\\\"\"
 warning B /b at 12:3 \"a \\\"B\\\"\"
 information E /e at 12:3 \"a \\\"E\\\"\"
-faults 4, passed over 0, failed 1, reported 1, errors 1, minor 2
+faults 4, passed over 0, unread 0, misplaced 0, failed 1, reported 1, errors 1, minor 2
 ",
     svrl: "\
 <?xml version=\"1.0\" encoding=\"UTF-8\"?>
@@ -92,12 +130,14 @@ flag=\"fatal\"><svrl:text/></svrl:failed-assert>\
 const JUDGED: &str =
     "pattern,fired unknown,failed A,warning B,fired root,reported C,pattern,fired date,error D,fired unknown,information E";
 
-/// The elements of the document.
+/// The elements of the document, and an attribute.
 #[derive(Clone, Copy)]
 struct Elements {
     root: NodeId,
     date: NodeId,
     unknown: NodeId,
+    // The attribute of the second one.
+    code: NodeId,
 }
 
 /// What sort of finding a word tells, and its level.
@@ -255,20 +295,21 @@ fn is_told(alloc: Global, report: &Validation<'_>, wanted: Wanted) -> Result<boo
     Ok(plain & svrl & failed & (report.has_findings() == wanted.findings))
 }
 
-/// Whether the faults, the elements passed over and the findings are reported so.
+/// Whether what the reading and the rules find is reported so.
 fn is_reported(
     alloc: Global,
     doc: &Doc<'_>,
     lines: &LineStarts,
-    faults: &[BindFault],
-    passed: &[NodeId],
+    reading: ReadingFindings<'_>,
     findings: Findings<'_>,
     wanted: Wanted,
 ) -> Result<bool, AllocError>
-    requires faults { All (λ (fault : BindFault). fault.node < length doc.now.nodes) faults.now }
-    requires passed { All (λ (n : ℕ). n < length doc.now.nodes) passed.now }
+    requires faults { All (λ (fault : BindFault). fault.node < length doc.now.nodes) reading.faults.now }
+    requires passed { All (λ (n : ℕ). n < length doc.now.nodes) reading.passed.now }
+    requires unread { All (λ (n : ℕ). n < length doc.now.nodes) reading.unread.now }
+    requires misplaced { All (λ (n : ℕ). n < length doc.now.nodes) reading.misplaced.now }
 {
-    let report = Validation::new(alloc, doc, lines, faults, passed, findings)?;
+    let report = Validation::new(alloc, doc, lines, &reading, findings)?;
     let held = is_told(alloc, &report, wanted);
     drop(report);
     held
@@ -294,9 +335,49 @@ fn reports_reading(
     requires unknown { elements.unknown < length doc.now.nodes }
 {
     let faults = [fault(BindKind::BadValue, term(2, 0), elements.date)];
-    let passed = [elements.unknown];
-    let findings = Findings::new(alloc);
-    is_reported(alloc, doc, lines, &faults, &passed, findings, READING)
+    let reading = ReadingFindings {
+        faults: &faults,
+        passed: &[elements.unknown],
+        unread: &[elements.date],
+        misplaced: &[elements.unknown],
+    };
+    is_reported(alloc, doc, lines, reading, Findings::new(alloc), READING)
+}
+
+fn reports_unread(
+    alloc: Global,
+    doc: &Doc<'_>,
+    lines: &LineStarts,
+    elements: Elements,
+) -> Result<bool, AllocError>
+    requires root { elements.root < length doc.now.nodes }
+    requires unknown { elements.unknown < length doc.now.nodes }
+    requires code { elements.code < length doc.now.nodes }
+{
+    let reading = ReadingFindings {
+        faults: &[],
+        passed: &[],
+        unread: &[elements.root, elements.unknown, elements.code],
+        misplaced: &[],
+    };
+    is_reported(alloc, doc, lines, reading, Findings::new(alloc), UNREAD)
+}
+
+fn reports_misplaced(
+    alloc: Global,
+    doc: &Doc<'_>,
+    lines: &LineStarts,
+    elements: Elements,
+) -> Result<bool, AllocError>
+    requires { elements.date < length doc.now.nodes }
+{
+    let reading = ReadingFindings {
+        faults: &[],
+        passed: &[],
+        unread: &[],
+        misplaced: &[elements.date],
+    };
+    is_reported(alloc, doc, lines, reading, Findings::new(alloc), MISPLACED)
 }
 
 fn reports_mixed(
@@ -315,7 +396,13 @@ fn reports_mixed(
         fault(BindKind::Excess, term(1007, 0), elements.unknown),
     ];
     let findings = findings_of(alloc, &elements, JUDGED)?;
-    is_reported(alloc, doc, lines, &faults, &[], findings, MIXED)
+    let reading = ReadingFindings {
+        faults: &faults,
+        passed: &[],
+        unread: &[],
+        misplaced: &[],
+    };
+    is_reported(alloc, doc, lines, reading, findings, MIXED)
 }
 
 /// Of each row the findings, whether any counts against the document, and the end of the plain report.
@@ -356,7 +443,13 @@ impl Holds for Counted<'_> {
     fn holds(&self, alloc: Global, row: &'static str) -> Result<bool, Fail> {
         let (texts, wanted) = row.split_once('→').unwrap_or((row, ""));
         let findings = findings_of(alloc, &self.elements, texts)?;
-        let report = Validation::new(alloc, self.doc, self.lines, &[], &[], findings)?;
+        let reading = ReadingFindings {
+            faults: &[],
+            passed: &[],
+            unread: &[],
+            misplaced: &[],
+        };
+        let report = Validation::new(alloc, self.doc, self.lines, &reading, findings)?;
         let held = is_counted(alloc, &report, wanted);
         drop(report);
         Ok(held?)
@@ -373,11 +466,12 @@ fn next<L: Ledger>(doc: &Doc<'_>, n: NodeId, steps: &mut Steps<L>) -> NodeId
     }
 }
 
-/// The elements of the document, between which texts stand.
+/// The elements of the document, between which texts stand, and the attribute of the last one.
 fn elements_of<L: Ledger>(doc: &Doc<'_>, steps: &mut Steps<L>) -> Elements
     ensures root { result.root < length doc.now.nodes }
     ensures date { result.date < length doc.now.nodes }
     ensures unknown { result.unknown < length doc.now.nodes }
+    ensures code { result.code < length doc.now.nodes }
 {
     let root = doc.root();
     let space = next(doc, root, steps);
@@ -385,10 +479,12 @@ fn elements_of<L: Ledger>(doc: &Doc<'_>, steps: &mut Steps<L>) -> Elements
     let day = next(doc, date, steps);
     let space = next(doc, day, steps);
     let unknown = next(doc, space, steps);
+    let code = next(doc, unknown, steps);
     Elements {
         root,
         date,
         unknown,
+        code,
     }
 }
 
@@ -401,6 +497,7 @@ fn expect_all<'a>(
     requires root { elements.root < length doc.now.nodes }
     requires date { elements.date < length doc.now.nodes }
     requires unknown { elements.unknown < length doc.now.nodes }
+    requires code { elements.code < length doc.now.nodes }
 {
     let test = Counted {
         doc,
@@ -408,6 +505,8 @@ fn expect_all<'a>(
         elements,
     };
     expect(reports_reading(alloc, doc, lines, elements)?, "reading")?;
+    expect(reports_unread(alloc, doc, lines, elements)?, "unread")?;
+    expect(reports_misplaced(alloc, doc, lines, elements)?, "misplaced")?;
     expect(reports_mixed(alloc, doc, lines, elements)?, "mixed")?;
     expect_rows(alloc, &test, COUNTS)
 }

@@ -14,10 +14,9 @@ use Rattle.bind_rows.specs.declared.rows.Row.{Row}
 use Rattle.bind_rows.specs.declared.tables.DocumentType.{DocumentType}
 use Rattle.bind_meaning.specs.declared.fault.BindFault.{BindFault}
 use Rattle.bind_meaning.specs.declared.fault.BindKind.TheVariants as kinds
-use Rattle.bind_meaning.specs.Faults.{faults_in, passed_nodes}
 use Rattle.bind_run.specs.declared.tables.Tables.{Tables}
 use Rattle.bind_run.specs.Extensions.{rows_for}
-use Rattle.bind_run.specs.Reading.{AreTablesFor, ReadingReport, faults_by, faults_by_root, rows_in}
+use Rattle.bind_run.specs.Reading.{AreTablesFor, ReadingReport, faults_by, faults_by_root, report_by, rows_in}
 use Rattle.bind_run.specs.Roots.{document_type_of}
 use Rattle.held_rules.specs.Texts.{Ready}
 use Rattle.validation_report.specs.Validating.{Validated, Report, report_of}
@@ -85,7 +84,7 @@ by_same_rows : (rows other : DocumentType → List Row) → ((table : DocumentTy
     → faults_by_root rows nodes lists table ≡ faults_by_root other nodes lists table
 by_same_rows rows other same nodes lists None = refl
 by_same_rows rows other same nodes lists (Some table) =
-    ap (λ r. Ok (record { document_type = table; faults = faults_in nodes r lists; passed = passed_nodes nodes r })) (same table)
+    ap (λ r. Ok (report_by nodes r lists table)) (same table)
 
 pub same_faults : (terms : List ExtTerm) (tables : Tables) → AreTablesFor terms tables → (nodes : List Node) (lists : Lists)
     → faults_by (rows_for terms) nodes lists ≡ faults_by (rows_in tables) nodes lists

@@ -14,7 +14,6 @@ use Rattle.bind_rows.specs.declared.tables.DocumentType.TheVariants as document_
 use Rattle.bind_meaning.specs.declared.fault.BindFault.{BindFault}
 use Rattle.bind_run.specs.Extensions.{rows_for}
 use Rattle.bind_run.specs.Reading.{ReadingReport, faults_by}
-use Rattle.bind_run.specs.declared.faults.ReadingReport.{ReadingReport as FaultsFound}
 use Rattle.rule_texts.specs.Texts.{ubl_text, cii_text, code_lists_text}
 use Rattle.held_rules.specs.Texts.{Ready, ready_in, found_by}
 use Rattle.validation_report.specs.Validating.{Validated, Report, report_of}
@@ -55,19 +54,21 @@ abbrev pub listed_protocol : Option (List ℕ) → (Lists → Protocol) → Prot
 listed_protocol None next = by_built_in next built_in_lists
 listed_protocol (Some file) next = lists_protocol file next
 
--- the lists, and the terms that a user adds
+-- the lists, and the extension terms
 abbrev pub given_protocol : Sources → (ReadingProfile → Protocol) → Protocol
 given_protocol sources next = with_terms (listed_protocol sources.codes_file) sources.extension_file next
 
 -- ---- what is found
 
--- what validating a document comes to: its faults and the elements that were passed over, and what the rules find in it
+-- what validating a document comes to: its faults, what was passed over, is unread or misplaced, and what the rules find in it
 abbrev pub validated : List ℕ → Document → ReadingReport → Ready → Validated
 validated content document reading_report ready = record {
   content = content;
   document = document;
   faults = reading_report.faults;
   passed = reading_report.passed;
+  unread = reading_report.unread;
+  misplaced = reading_report.misplaced;
   lines = found_by ready (tree_nodes document);
 }
 
@@ -130,7 +131,3 @@ abbrev pub IsUnlisted : Status → SinkView → SinkView → Type 0
 IsUnlisted status before after =
     ((status ≡ statuses.Memory) × (after ≡ before))
     ⊎ (((fault : ListFault) × (built_in_lists ≡ Err fault)) × (status ≡ statuses.RulesRefused) × TakesOrFails not_built_in.err before after)
-
--- what is wrong with a document, as the definitions have it
-abbrev pub reading_report_of : FaultsFound → ReadingReport
-reading_report_of found = record { document_type = found.document_type; faults = found.faults.items; passed = found.passed_over.items }

@@ -101,7 +101,7 @@ fn load_lists<S: Shelf, E: Sink>(
     }
 }
 
-/// What a document is validated by: the code lists, and the tables with the terms that a user adds; or the status with which the job
+/// What a document is validated by: the code lists, and the tables with the extension terms; or the status with which the job
 /// ends.
 pub(crate) fn load_given<S: Shelf, E: Sink>(
     alloc: Global,

@@ -2,7 +2,7 @@
 ghost use Rattle.std.specs.Prelude.{◌≡◌, ◌<◌, ℕ, List, length};
 ghost use Rattle.inv_base.specs.Outside.{ShelfView, SinkView};
 ghost use Rattle.bind_run.specs.Extensions.{AreGood};
-ghost use Rattle.bind_run.specs.Reading.{AreTablesFor, IsWithin};
+ghost use Rattle.bind_run.specs.Reading.{AreTablesFor, IsWithin, found_report};
 ghost use Rattle.held_rules.specs.Texts.{seen_ready, IsReady};
 ghost use Rattle.line_places.specs.Places.{AreLinesOf};
 ghost use Rattle.inv_base.specs.Writing.{Writes};
@@ -10,7 +10,6 @@ ghost use Rattle.job_protocol.specs.Runs.{Runs};
 ghost use Rattle.invoice_jobs.specs.Sources.{profile_of, sources_of};
 ghost use Rattle.job_protocol.specs.Protocol.{ends, told_protocol};
 ghost use Rattle.validation_jobs.specs.Validation.{status_by, text_in, told_by, reported, validated, judged_next, document_next, found_next, validate_protocol};
-ghost use Rattle.validation_jobs.specs.Validation.{reading_report_of};
 
 use crate::built_in::{built_in_rules, load_given, tell_not_built_in};
 use bind_run::{ReadingReport, faults_of_document};
@@ -22,7 +21,7 @@ use job_protocol::{Placed, Status, load_placed};
 use std::alloc::Global;
 use std::marker::Brand;
 use std::sync::ledger::{Blank, Ledger};
-use validation_report::Validation;
+use validation_report::{ReadingFindings, Validation};
 use xml_write::WriteFault;
 
 /// What is asked of an invoice.
@@ -176,7 +175,7 @@ fn judge_document<L: Ledger, O: Sink, E: Sink>(
 ) -> Status
     requires within { IsWithin (length placed.now.doc.nodes) reading_report.now }
     ensures { (content : List ℕ) → AreLinesOf placed.now.lines content
-        → (shelf : ShelfView) → Runs (judged_next svrl content placed.now.doc (reading_report_of reading_report.now))
+        → (shelf : ShelfView) → Runs (judged_next svrl content placed.now.doc (found_report reading_report.now))
         (record { shelf = shelf; out = O.view out.old; err = E.view err.old })
         (record { shelf = shelf; out = O.view out.new; err = E.view err.new }) result }
 {
@@ -207,7 +206,7 @@ fn report<L: Ledger, O: Sink>(
     requires within { IsWithin (length placed.now.doc.nodes) reading_report.now }
     requires ready { IsReady ready.now }
     ensures { (content : List ℕ) → AreLinesOf placed.now.lines content
-        → (shelf : ShelfView) (err : SinkView) → Runs (ends (reported svrl (validated content placed.now.doc (reading_report_of reading_report.now)
+        → (shelf : ShelfView) (err : SinkView) → Runs (ends (reported svrl (validated content placed.now.doc (found_report reading_report.now)
         (seen_ready ready.now))))
         (record { shelf = shelf; out = O.view out.old; err = err })
         (record { shelf = shelf; out = O.view out.new; err = err }) result }
@@ -218,14 +217,13 @@ fn report<L: Ledger, O: Sink>(
         Ok(found) => found,
         Err(_) => return Status::Memory,
     };
-    let made = Validation::new(
-        alloc,
-        doc,
-        lines,
-        &reading_report.faults,
-        &reading_report.passed_over,
-        found,
-    );
+    let reading = ReadingFindings {
+        faults: reading_report.faults.as_slice(),
+        passed: reading_report.passed_over.as_slice(),
+        unread: reading_report.losses.unread.as_slice(),
+        misplaced: reading_report.losses.misplaced.as_slice(),
+    };
+    let made = Validation::new(alloc, doc, lines, &reading, found);
     match made {
         Ok(validation) => {
             let status = write_report(svrl, &validation, out);

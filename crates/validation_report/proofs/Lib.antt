@@ -1,4 +1,6 @@
 pub mod ListLemmas
 pub mod OrderLemmas
 pub mod TextLemmas
+mod OwnTextLemmas
+mod CharacterLemmas
 mod Rows

@@ -1,5 +1,6 @@
 -- What the code keeps of a report until it is written. No public clause cites it.
-use Rattle.std.specs.Prelude.{◌≡◌, ℕ, suc, List, [], ◌∷◌, ◌++◌, length, get_or, map, flat_map, codes, encode_utf8_all, Option, Some, None, slice_get}
+use Rattle.std.specs.Prelude.{◌≡◌, ℕ, ◌<◌, suc, List, [], ◌∷◌, ◌++◌, length, get_or, map, flat_map, codes, encode_utf8_all, Option, Some, None, slice_get}
+use Rattle.std.specs.List.{All}
 use Rattle.line_places.specs.declared.place.LinePlace.{LinePlace}
 use Rattle.line_places.specs.Places.{place_in}
 use Rattle.node_arena.specs.Document.{Document, node_at}
@@ -12,9 +13,33 @@ use Rattle.schematron_findings.specs.declared.finding.Line.TheVariants as line
 use Rattle.svrl_report.specs.Plain.{outcome_text, tally_of}
 use Rattle.svrl_report.specs.Svrl.{svrl_report}
 use Rattle.validation_report.specs.declared.places.Spot.{Spot}
-use Rattle.validation_report.specs.declared.places.Passed.{Passed}
+use Rattle.validation_report.specs.declared.places.Located.{Located}
+use Rattle.validation_report.specs.declared.places.Unread.{Unread}
+use Rattle.validation_report.specs.declared.places.Spots.{Spots}
+use Rattle.validation_report.specs.declared.reading.ReadingFindings.{ReadingFindings}
 use Rattle.validation_report.specs.Told.{in_order}
-use Rattle.validation_report.specs.Validating.{finding_text, passed_text, count_text, counts_against, Report}
+use Rattle.validation_report.specs.Validating.{finding_text, element_text, unread_text, value_at, count_text, counts_against, Validated, Report}
+
+-- ---- what the reading finds
+
+-- The nodes of all that the reading finds are the document's.
+pub record AreWithin (document : Document) (reading : ReadingFindings) : Type 0 where
+  pub faults : All (λ (fault : BindFault). fault.node < length document.nodes) reading.faults.now
+  pub passed : All (λ (n : ℕ). n < length document.nodes) reading.passed.now
+  pub unread : All (λ (n : ℕ). n < length document.nodes) reading.unread.now
+  pub misplaced : All (λ (n : ℕ). n < length document.nodes) reading.misplaced.now
+
+-- what a validation comes to, of these
+abbrev pub validation_of : List ℕ → Document → ReadingFindings → List Line → Validated
+validation_of content document reading lines = record {
+  content = content;
+  document = document;
+  faults = reading.faults.now;
+  passed = reading.passed.now;
+  unread = reading.unread.now;
+  misplaced = reading.misplaced.now;
+  lines = lines;
+}
 
 -- ---- where findings stand
 
@@ -56,8 +81,12 @@ spots_of document content lines = spots_from document content 0 0 lines
 abbrev pub ordered : List Spot → List Spot
 ordered spots = in_order (λ (spot : Spot). spot.node) spots
 
-abbrev pub passed_of : Document → List ℕ → ℕ → Passed
-passed_of document content node = record { location = location (tree_nodes document) node; place = place_at document content node }
+-- where an element stands in its document and its file
+abbrev pub located_at : Document → List ℕ → ℕ → Located
+located_at document content node = record { location = location (tree_nodes document) node; place = place_at document content node }
+
+abbrev pub unread_of : Document → List ℕ → ℕ → Unread
+unread_of document content node = record { element = located_at document content node; value = value_at document node }
 
 -- ---- what is printed of it
 
@@ -81,15 +110,25 @@ fault_word finding = codes "fault " ++ encode_utf8_all finding.test
 abbrev pub outcome_word : Finding → List ℕ
 outcome_word finding = outcome_text finding.outcome finding.level
 
-abbrev pub held_passed : Passed → List ℕ
-held_passed passed = passed_text passed.location passed.place
+-- the line of an element behind a word
+abbrev pub located_text : List ℕ → Located → List ℕ
+located_text word located = element_text word located.location located.place
 
-abbrev pub held_plain : List Line → List Line → List Spot → List Passed → List Spot → List ℕ
-held_plain reading rules faults passed found =
-    flat_map (spot_text fault_word reading) faults
-    ++ (flat_map held_passed passed
-    ++ (flat_map (spot_text outcome_word rules) found
-    ++ count_text (length faults) (length passed) (tally_of rules)))
+abbrev pub held_unread : Unread → List ℕ
+held_unread unread = unread_text unread.element.location unread.element.place unread.value
+
+abbrev pub held_counts : Spots → List Line → List ℕ
+held_counts spots rules =
+    count_text (length spots.faults.items) (length spots.passed.items) (length spots.unread.items) (length spots.misplaced.items) (tally_of rules)
+
+abbrev pub held_plain : List Line → List Line → Spots → List ℕ
+held_plain reading rules spots =
+    flat_map (spot_text fault_word reading) spots.faults.items
+    ++ (flat_map (located_text (codes "passed over")) spots.passed.items
+    ++ (flat_map held_unread spots.unread.items
+    ++ (flat_map (located_text (codes "misplaced")) spots.misplaced.items
+    ++ (flat_map (spot_text outcome_word rules) spots.findings.items
+    ++ held_counts spots rules))))
 
 -- of two lists of lines what the reading finds, and what rules find
 abbrev pub reading_in : List (List Line) → List Line
@@ -98,18 +137,26 @@ reading_in found = get_or found 0 []
 abbrev pub rules_in : List (List Line) → List Line
 rules_in found = get_or found 1 []
 
-unfoldable pub held : List (List Line) → List Spot → List Passed → List Spot → Report
-held found faults passed findings = record {
-  plain = held_plain (reading_in found) (rules_in found) faults passed findings;
+unfoldable pub held : List (List Line) → Spots → Report
+held found spots = record {
+  plain = held_plain (reading_in found) (rules_in found) spots;
   svrl = encode_utf8_all (svrl_report found);
-  findings = counts_against (length faults) (tally_of (rules_in found));
+  findings = counts_against (length spots.faults.items) (length spots.misplaced.items) (tally_of (rules_in found));
 }
 
--- The spots are those of the faults, of the elements that were passed over, and of the findings in document order.
-pub record ArePlaced
-    (document : Document) (content : List ℕ) (faults : List BindFault) (passed : List ℕ) (lines : List Line)
-    (fault_places : List Spot) (passed_places : List Passed) (finding_places : List Spot)
-    : Type 0 where
-  pub reading_report : fault_places ≡ fault_spots document content 2 faults
-  pub passed_over : passed_places ≡ map (passed_of document content) passed
-  pub told : finding_places ≡ ordered (spots_of document content lines)
+-- There are no spots yet.
+pub record AreNone (spots : Spots) : Type 0 where
+  pub faults : spots.faults.items ≡ []
+  pub passed : spots.passed.items ≡ []
+  pub unread : spots.unread.items ≡ []
+  pub misplaced : spots.misplaced.items ≡ []
+  pub findings : spots.findings.items ≡ []
+
+-- The spots are those of the faults, of the elements that were passed over, of the unread nodes, of the misplaced elements, and
+-- of the findings in document order.
+pub record ArePlaced (v : Validated) (spots : Spots) : Type 0 where
+  pub faults : spots.faults.items ≡ fault_spots v.document v.content 2 v.faults
+  pub passed : spots.passed.items ≡ map (located_at v.document v.content) v.passed
+  pub unread : spots.unread.items ≡ map (unread_of v.document v.content) v.unread
+  pub misplaced : spots.misplaced.items ≡ map (located_at v.document v.content) v.misplaced
+  pub findings : spots.findings.items ≡ ordered (spots_of v.document v.content v.lines)

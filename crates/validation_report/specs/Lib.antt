@@ -1,3 +1,4 @@
 pub mod Told
 pub mod Validating
+pub mod OwnTexts
 pub mod Held

@@ -1,12 +1,13 @@
--- What is told of a document: faults of reading it as an invoice, elements that are passed over, findings of rules.
-use Rattle.std.specs.Prelude.{ℕ, nat_lt, true, false, List, [], ◌∷◌, map, codes, chars, Option, Some, None, unwrap_or}
+-- What is told of a document: faults of reading it as an invoice, elements that are misplaced, findings of rules.
+use Rattle.std.specs.Prelude.{ℕ, nat_lt, true, false, List, [], ◌∷◌, ◌++◌, map, codes, chars, Option, Some, None, unwrap_or}
 use Rattle.term_table.specs.Groups as groups
 use Rattle.term_table.specs.Names as terms
+use Rattle.inv_base.specs.Tree.{Name as ExpandedName}
 use Rattle.inv_terms.specs.declared.violations.Name.{Name}
 use Rattle.inv_terms.specs.declared.violations.Name.TheVariants as names
 use Rattle.inv_listing.specs.Listing.{term_text}
 use Rattle.node_arena.specs.Document.{Document}
-use Rattle.node_arena.specs.Moves.{tree_nodes}
+use Rattle.node_arena.specs.Moves.{tree_nodes, tree_node}
 use Rattle.node_locations.specs.Locations.{location}
 use Rattle.bind_meaning.specs.declared.fault.BindFault.{BindFault}
 use Rattle.bind_meaning.specs.KindTexts.{kind_text}
@@ -46,10 +47,35 @@ fault_finding document fault = record {
 abbrev pub fault_line : Document → BindFault → Line
 fault_line document fault = line.Found (fault_finding document fault)
 
--- the reading as a pattern of its own: one rule that judges the document, and finds the faults
-abbrev pub reading_lines : Document → List BindFault → List Line
-reading_lines document faults =
-    line.Pattern (Some (codes "reading")) ∷ line.Fired 0 0 (codes "/") ∷ map (fault_line document) faults
+-- ---- elements that are misplaced
+
+-- the local name of an element or an attribute
+abbrev pub local_name : Option ExpandedName → List ℕ
+local_name None = []
+local_name (Some name) = name.local
+
+-- A misplaced element as a finding at it, which its local name tells.
+abbrev pub misplaced_finding : Document → ℕ → Finding
+misplaced_finding document node = record {
+  outcome = outcomes.Failed;
+  test = codes "Misplaced";
+  location = location (tree_nodes document) node;
+  message = local_name (tree_node (tree_nodes document) node).name;
+  id = None;
+  flag = Some (codes "fatal");
+  role = None;
+  level = levels.Fatal;
+}
+
+abbrev pub misplaced_line : Document → ℕ → Line
+misplaced_line document node = line.Found (misplaced_finding document node)
+
+-- the reading as a pattern of its own: one rule that judges the document, and finds the faults and behind them the misplaced
+-- elements
+abbrev pub reading_lines : Document → List BindFault → List ℕ → List Line
+reading_lines document faults misplaced =
+    line.Pattern (Some (codes "reading")) ∷ line.Fired 0 0 (codes "/")
+    ∷ (map (fault_line document) faults ++ map (misplaced_line document) misplaced)
 
 -- ---- findings of rules
 

@@ -1,5 +1,5 @@
-//! What a validation tells, written: the faults of reading an invoice, the elements that were passed over, and what rules
-//! find, as lines for a person and in the Schematron Validation Report Language.
+//! What a validation tells, written: the faults of reading an invoice, what of its document is passed over, unread or
+//! misplaced, and what rules find, as lines for a person and in the Schematron Validation Report Language.
 #![tactic(auto)]
 
 mod places;
@@ -7,5 +7,7 @@ mod printing;
 mod reading;
 mod texts;
 mod validation;
+mod values;
 
+pub use reading::ReadingFindings;
 pub use validation::Validation;

@@ -1,4 +1,4 @@
-//! Where findings and elements stand: the place of each one's node, and the order of findings.
+//! Where all stands that is told: the place of each one's node, and the order of findings.
 ghost use Rattle.std.specs.Prelude.{◌≡◌, ◌++◌, ◌∷◌, [], ◌+◌, ◌<◌, ℕ, List, length, map, IfOk, OnOk};
 ghost use Rattle.std.specs.List.{All};
 ghost use Rattle.line_places.specs.Places.{AreLinesOf, place_in};
@@ -7,9 +7,10 @@ ghost use Rattle.node_arena.specs.Moves.{tree_nodes};
 ghost use Rattle.node_locations.specs.Locations.{AreOrdinals};
 ghost use Rattle.bind_meaning.specs.declared.fault.BindFault.{BindFault};
 ghost use Rattle.schematron_findings.specs.declared.finding.Line.{Line};
-ghost use Rattle.validation_report.specs.Held.{fault_spots, spots_of, spots_from, node_behind, spots_at, passed_of, ordered};
+ghost use Rattle.validation_report.specs.Held.{fault_spots, spots_of, spots_from, node_behind, spots_at, located_at, unread_of, ordered};
 
 use crate::texts::location_of;
+use crate::values::value_of;
 use bind_meaning::BindFault;
 use inv_base::Txt;
 use line_places::{LinePlace, LineStarts};
@@ -26,16 +27,57 @@ pub(crate) struct Spot {
     pub(crate) place: LinePlace,
 }
 
-/// An element that was passed over: where it stands in the document, and in the file.
-pub(crate) struct Passed {
+/// An element that is told by itself: where it stands in the document, and in the file.
+pub(crate) struct Located {
     pub(crate) location: Txt,
     pub(crate) place: LinePlace,
 }
 
-impl Drop for Passed {
+impl Drop for Located {
     fn drop(self) {
-        let Passed { location, place: _ } = self;
+        let Located { location, place: _ } = self;
         drop(location);
+    }
+}
+
+/// An unread node, and what is shown of its own text, not quoted yet.
+pub(crate) struct Unread {
+    pub(crate) element: Located,
+    pub(crate) value: Txt,
+}
+
+impl Drop for Unread {
+    fn drop(self) {
+        let Unread { element, value } = self;
+        drop(element);
+        drop(value);
+    }
+}
+
+/// Where stands what is told.
+pub(crate) struct Spots {
+    pub(crate) faults: Vec<Spot>,
+    pub(crate) passed: Vec<Located>,
+    pub(crate) unread: Vec<Unread>,
+    pub(crate) misplaced: Vec<Located>,
+    // In document order.
+    pub(crate) findings: Vec<Spot>,
+}
+
+impl Drop for Spots {
+    fn drop(self) {
+        let Spots {
+            faults,
+            passed,
+            unread,
+            misplaced,
+            findings,
+        } = self;
+        drop(faults);
+        drop(passed);
+        drop(unread);
+        drop(misplaced);
+        drop(findings);
     }
 }
 
@@ -175,22 +217,61 @@ fn push_spot(
     }
 }
 
-/// The elements that were passed over.
-pub(crate) fn push_passed(
+/// Where these elements stand.
+pub(crate) fn push_located(
     alloc: Global,
     input: &ReportInput<'_, '_>,
     nodes: &[NodeId],
-    passed: &mut Vec<Passed>,
+    located: &mut Vec<Located>,
 ) -> Result<(), AllocError>
     requires within { All (λ (n : ℕ). n < length input.now.doc.now.nodes) nodes.now }
     requires ordinals { AreOrdinals input.now.doc.now input.now.ordinals.now }
     ensures { OnOk result ((content : List ℕ) → AreLinesOf input.now.lines.now content
-        → passed.new.items ≡ passed.old.items ++ map (passed_of input.now.doc.now content) nodes.now) }
+        → located.new.items ≡ located.old.items ++ map (located_at input.now.doc.now content) nodes.now) }
 {
     'nodes: for n in nodes {
         let location = location_of(alloc, input.doc, input.ordinals, *n)?;
         let place = place_at(input.doc, input.lines, *n);
-        passed.push(Passed { location, place })?;
+        located.push(Located { location, place })?;
     }
     Ok(())
+}
+
+/// Where these unread nodes stand, and what is shown of them.
+pub(crate) fn push_unread(
+    alloc: Global,
+    input: &ReportInput<'_, '_>,
+    nodes: &[NodeId],
+    unread: &mut Vec<Unread>,
+) -> Result<(), AllocError>
+    requires within { All (λ (n : ℕ). n < length input.now.doc.now.nodes) nodes.now }
+    requires ordinals { AreOrdinals input.now.doc.now input.now.ordinals.now }
+    ensures { OnOk result ((content : List ℕ) → AreLinesOf input.now.lines.now content
+        → unread.new.items ≡ unread.old.items ++ map (unread_of input.now.doc.now content) nodes.now) }
+{
+    'nodes: for n in nodes {
+        let one = unread_at(alloc, input, *n)?;
+        unread.push(one)?;
+    }
+    Ok(())
+}
+
+/// Where an unread node stands, and what is shown of it.
+fn unread_at(alloc: Global, input: &ReportInput<'_, '_>, n: NodeId) -> Result<Unread, AllocError>
+    requires within { n < length input.now.doc.now.nodes }
+    requires ordinals { AreOrdinals input.now.doc.now input.now.ordinals.now }
+    ensures { IfOk result (λ one. (content : List ℕ) → AreLinesOf input.now.lines.now content → one ≡ unread_of input.now.doc.now content n) }
+{
+    let location = location_of(alloc, input.doc, input.ordinals, n)?;
+    let place = place_at(input.doc, input.lines, n);
+    match value_of(alloc, input.doc, n) {
+        Ok(value) => Ok(Unread {
+            element: Located { location, place },
+            value,
+        }),
+        Err(fault) => {
+            drop(location);
+            Err(fault)
+        }
+    }
 }

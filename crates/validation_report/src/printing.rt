@@ -1,12 +1,11 @@
 //! The report for a person.
-ghost use Rattle.std.specs.Prelude.{◌≡◌, ◌++◌, encode_utf8_all, flat_map, length, List, ℕ};
+ghost use Rattle.std.specs.Prelude.{encode_utf8_all, flat_map, List, ℕ};
 ghost use Rattle.inv_base.specs.Printing.{Prints};
 ghost use Rattle.schematron_findings.specs.declared.finding.Finding.{Finding};
-ghost use Rattle.svrl_report.specs.Plain.{tally_of};
-ghost use Rattle.validation_report.specs.Validating.{at_text, finding_text, passed_text, count_text};
-ghost use Rattle.validation_report.specs.Held.{line_text, spot_text, fault_word, outcome_word, held_passed};
+ghost use Rattle.validation_report.specs.Validating.{at_text, finding_text};
+ghost use Rattle.validation_report.specs.Held.{line_text, spot_text, fault_word, outcome_word, located_text, held_unread, held_counts};
 
-use crate::places::{Passed, Spot};
+use crate::places::{Located, Spot, Spots, Unread};
 use inv_base::{Printer, Sink};
 use line_places::LinePlace;
 use schematron_findings::{Finding, Lent, Line};
@@ -120,38 +119,67 @@ fn print_place<K: Sink>(place: LinePlace, printer: &mut Printer, out: &mut K)
     print_number(place.column, printer, out);
 }
 
-/// Prints the elements that were passed over.
-pub(crate) fn print_all_passed<K: Sink>(passed: &[Passed], printer: &mut Printer, out: &mut K)
-    ensures { Prints (flat_map held_passed passed.now) printer.old.failed printer.new.failed (K.view out.old) (K.view out.new) }
-{
-    'passed: for one in passed {
-        print_passed(one, printer, out);
-    }
-}
-
-fn print_passed<K: Sink>(passed: &Passed, printer: &mut Printer, out: &mut K)
-    ensures { Prints (passed_text passed.now.location passed.now.place) printer.old.failed printer.new.failed (K.view out.old) (K.view out.new) }
-{
-    printer.put(out, b"passed over ");
-    print_text(&passed.location, printer, out);
-    print_place(passed.place, printer, out);
-    printer.put(out, b"\n");
-}
-
-/// Prints how many faults and elements there are, and how many findings of each sort.
-pub(crate) fn print_all_counts<K: Sink>(
-    faults: &[Spot],
-    passed: &[Passed],
-    tally: Tally,
+/// Prints the lines of these elements, each behind the word.
+pub(crate) fn print_all_located<K: Sink>(
+    word: &[u8],
+    located: &[Located],
     printer: &mut Printer,
     out: &mut K,
 )
-    ensures { Prints (count_text (length faults.now) (length passed.now) tally) printer.old.failed printer.new.failed (K.view out.old) (K.view out.new) }
+    ensures { Prints (flat_map (located_text word.now) located.now) printer.old.failed printer.new.failed (K.view out.old) (K.view out.new) }
+{
+    'located: for one in located {
+        print_located(word, one, printer, out);
+    }
+}
+
+fn print_located<K: Sink>(word: &[u8], located: &Located, printer: &mut Printer, out: &mut K)
+    ensures { Prints (located_text word.now located.now) printer.old.failed printer.new.failed (K.view out.old) (K.view out.new) }
+{
+    printer.put(out, word);
+    printer.put(out, b" ");
+    print_text(&located.location, printer, out);
+    print_place(located.place, printer, out);
+    printer.put(out, b"\n");
+}
+
+/// Prints the lines of the unread nodes.
+pub(crate) fn print_all_unread<K: Sink>(unread: &[Unread], printer: &mut Printer, out: &mut K)
+    ensures { Prints (flat_map held_unread unread.now) printer.old.failed printer.new.failed (K.view out.old) (K.view out.new) }
+{
+    'unread: for one in unread {
+        print_unread(one, printer, out);
+    }
+}
+
+fn print_unread<K: Sink>(unread: &Unread, printer: &mut Printer, out: &mut K)
+    ensures { Prints (held_unread unread.now) printer.old.failed printer.new.failed (K.view out.old) (K.view out.new) }
+{
+    printer.put(out, b"unread ");
+    print_text(&unread.element.location, printer, out);
+    print_place(unread.element.place, printer, out);
+    printer.put(out, b" ");
+    print_message(&unread.value, printer, out);
+    printer.put(out, b"\n");
+}
+
+/// Prints how many there are of each sort of what the reading finds, and how many findings of each sort.
+pub(crate) fn print_all_counts<K: Sink>(
+    spots: &Spots,
+    rules: &[Line<'_>],
+    printer: &mut Printer,
+    out: &mut K,
+)
+    ensures { Prints (held_counts spots.now rules.now) printer.old.failed printer.new.failed (K.view out.old) (K.view out.new) }
 {
     printer.put(out, b"faults ");
-    print_number(faults.len() as u64, printer, out);
+    print_number(spots.faults.as_slice().len() as u64, printer, out);
     printer.put(out, b", passed over ");
-    print_number(passed.len() as u64, printer, out);
+    print_number(spots.passed.as_slice().len() as u64, printer, out);
+    printer.put(out, b", unread ");
+    print_number(spots.unread.as_slice().len() as u64, printer, out);
+    printer.put(out, b", misplaced ");
+    print_number(spots.misplaced.as_slice().len() as u64, printer, out);
     printer.put(out, b", ");
-    print_counts(tally, printer, out);
+    print_counts(Tally::of(rules), printer, out);
 }

@@ -1,12 +1,12 @@
-//! What names a fault of reading and where it stands, as texts.
+//! What names a fault of reading or an element, and where it stands, as texts.
 ghost use Rattle.std.specs.Prelude.{◌≡◌, ℕ, List, ◌++◌, ◌<◌, [], length, chars, string_bytes, unwrap_or, Some, IfOk, OnOk};
 ghost use Rattle.std.specs.Str.{IsAscii};
 ghost use Rattle.term_table.specs.Names as terms;
 ghost use Rattle.inv_listing.specs.Listing.{term_text, part_text};
-ghost use Rattle.node_arena.specs.Moves.{tree_nodes};
+ghost use Rattle.node_arena.specs.Moves.{tree_nodes, tree_node};
 ghost use Rattle.node_locations.specs.Locations.{AreOrdinals, location};
 ghost use Rattle.bind_meaning.specs.KindTexts.{kind_text};
-ghost use Rattle.validation_report.specs.Told.{label, title};
+ghost use Rattle.validation_report.specs.Told.{label, local_name, title};
 
 use bind_meaning::BindKind;
 use inv_base::{Str, Txt};
@@ -107,6 +107,17 @@ fn name_of(term: Term) -> &'static str
     match term_name(term) {
         Some(name) => name,
         None => "",
+    }
+}
+
+/// The local name of an element or an attribute.
+pub(crate) fn local_name_of(alloc: Global, doc: &Doc<'_>, n: NodeId) -> Result<Txt, AllocError>
+    requires { n < length doc.now.nodes }
+    ensures { IfOk result (λ text. text ≡ local_name (tree_node (tree_nodes doc.now) n).name) }
+{
+    match doc.name(n) {
+        Some(name) => Txt::of(alloc, doc.names().local(name)),
+        None => Txt::of(alloc, ""),
     }
 }
 

@@ -1,5 +1,5 @@
 //! A report, made whole before its first byte is written.
-ghost use Rattle.std.specs.Prelude.{◌≡◌, ◌<◌, ◌∷◌, [], ℕ, List, length, get_or, encode_utf8_all, IfOk, OnOk};
+ghost use Rattle.std.specs.Prelude.{◌≡◌, ◌<◌, ◌∷◌, [], ℕ, List, length, get_or, IfOk, OnOk};
 ghost use Rattle.std.specs.List.{All};
 ghost use Rattle.inv_base.specs.Printing.{Printed, Prints};
 ghost use Rattle.inv_base.specs.Writing.{Writes};
@@ -7,45 +7,26 @@ ghost use Rattle.line_places.specs.Places.{AreLinesOf};
 ghost use Rattle.node_locations.specs.Locations.{AreOrdinals};
 ghost use Rattle.bind_meaning.specs.declared.fault.BindFault.{BindFault};
 ghost use Rattle.svrl_report.specs.Plain.{tally_of};
-ghost use Rattle.svrl_report.specs.Svrl.{svrl_report};
 ghost use Rattle.validation_report.specs.Told.{reading_lines};
-ghost use Rattle.validation_report.specs.Held.{ArePlaced, held, held_plain, reading_in, rules_in};
+ghost use Rattle.validation_report.specs.Held.{AreNone, ArePlaced, AreWithin, held, held_plain, reading_in, rules_in, validation_of};
 ghost use Rattle.validation_report.specs.Validating.{report_of, counts_against};
 
-use crate::places::{Passed, ReportInput, Spot, push_fault_spots, push_ordered, push_passed};
-use crate::printing::{FaultWord, OutcomeWord, print_all_counts, print_all_passed, print_spots};
-use crate::reading::reading_of;
-use bind_meaning::BindFault;
+use crate::places::{
+    ReportInput, Spots, push_fault_spots, push_located, push_ordered, push_unread,
+};
+use crate::printing::{
+    FaultWord, OutcomeWord, print_all_counts, print_all_located, print_all_unread, print_spots,
+};
+use crate::reading::{ReadingFindings, reading_of};
 use inv_base::{Printer, Sink};
 use line_places::LineStarts;
-use node_arena::{Doc, NodeId};
+use node_arena::Doc;
 use node_locations::Ordinals;
 use schematron_findings::{Findings, Line};
 use std::alloc::{AllocError, Global};
 use std::marker::Model;
 use svrl_report::{Tally, write_svrl};
 use xml_write::WriteFault;
-
-/// Where stands what is told.
-pub(crate) struct Spots {
-    faults: Vec<Spot>,
-    passed: Vec<Passed>,
-    // In document order.
-    findings: Vec<Spot>,
-}
-
-impl Drop for Spots {
-    fn drop(self) {
-        let Spots {
-            faults,
-            passed,
-            findings,
-        } = self;
-        drop(faults);
-        drop(passed);
-        drop(findings);
-    }
-}
 
 /// The report of a validation: all that takes memory is made, and nothing is written yet. Texts of the rules are lent from
 /// them. Contracts see what it tells.
@@ -69,26 +50,35 @@ impl<'r> Model for Validation<'r> {
 
     ghost Value = { Report };
 
-    ghost view = { λ v. held v.found.items v.spots.faults.items v.spots.passed.items v.spots.findings.items };
+    ghost view = { λ v. held v.found.items v.spots };
 }
 
 impl<'r> Validation<'r> {
-    /// The report on a document whose bytes gave these starts of lines, with the faults of reading it, the elements that
-    /// were passed over, and what rules find in it.
+    /// The report on a document whose bytes gave these starts of lines, with what its reading finds, and what rules find in
+    /// it.
     pub fn new<'t>(
         alloc: Global,
         doc: &Doc<'_>,
         lines: &LineStarts,
-        faults: &'t [BindFault],
-        passed: &'t [NodeId],
+        reading: &ReadingFindings<'t>,
         findings: Findings<'r>,
     ) -> Result<Validation<'r>, AllocError>
-        requires faults { All (λ (fault : BindFault). fault.node < length doc.now.nodes) faults.now }
-        requires passed { All (λ (n : ℕ). n < length doc.now.nodes) passed.now }
+        requires faults { All (λ (fault : BindFault). fault.node < length doc.now.nodes) reading.now.faults.now }
+        requires passed { All (λ (n : ℕ). n < length doc.now.nodes) reading.now.passed.now }
+        requires unread { All (λ (n : ℕ). n < length doc.now.nodes) reading.now.unread.now }
+        requires misplaced { All (λ (n : ℕ). n < length doc.now.nodes) reading.now.misplaced.now }
         ensures { IfOk result (λ report. (content : List ℕ) → AreLinesOf lines.now content
-            → report ≡ report_of (record { content = content; document = doc.now; faults = faults.now; passed = passed.now; lines = findings.entry })) }
+            → report ≡ report_of (record {
+              content = content;
+              document = doc.now;
+              faults = reading.now.faults.now;
+              passed = reading.now.passed.now;
+              unread = reading.now.unread.now;
+              misplaced = reading.now.misplaced.now;
+              lines = findings.entry;
+            })) }
     {
-        match prepared(alloc, doc, lines, faults, passed, findings.lines()) {
+        match prepared(alloc, doc, lines, reading, findings.lines()) {
             Ok(ready) => ready.with(alloc, findings),
             Err(fault) => {
                 drop(findings);
@@ -97,7 +87,7 @@ impl<'r> Validation<'r> {
         }
     }
 
-    /// Whether there is a fault, or a fatal assertion failed, or one is in error.
+    /// Whether there is a fault or a misplaced element, or a fatal assertion failed, or one is in error.
     pub fn has_findings(&self) -> bool
         ensures { result ≡ self.now.findings }
     {
@@ -119,14 +109,6 @@ impl<'r> Validation<'r> {
     }
 }
 
-/// What is told of a document: the faults of reading it, the elements that were passed over, and what rules find.
-#[derive(Clone, Copy)]
-struct Told<'t, 'f, 'r> {
-    faults: &'t [BindFault],
-    passed: &'t [NodeId],
-    found: &'f [Line<'r>],
-}
-
 /// What a report is made of, but for what rules find.
 struct Ready<'r> {
     reading: Findings<'r>,
@@ -144,8 +126,7 @@ impl Drop for Ready<'_> {
 impl<'r> Ready<'r> {
     /// With what rules find.
     fn with(self, alloc: Global, findings: Findings<'r>) -> Result<Validation<'r>, AllocError>
-        ensures { IfOk result (λ report. report ≡ held (self.entry.reading ∷ findings.entry ∷ [])
-            self.entry.spots.faults.items self.entry.spots.passed.items self.entry.spots.findings.items) }
+        ensures { IfOk result (λ report. report ≡ held (self.entry.reading ∷ findings.entry ∷ []) self.entry.spots) }
     {
         let Ready { reading, spots } = self;
         match both(alloc, reading, findings) {
@@ -173,41 +154,17 @@ fn both<'r>(
 }
 
 /// All but what rules find.
-fn prepared<'r, 't>(
+fn prepared<'r>(
     alloc: Global,
     doc: &Doc<'_>,
     lines: &LineStarts,
-    faults: &'t [BindFault],
-    passed: &'t [NodeId],
+    reading: &ReadingFindings<'_>,
     found: &[Line<'_>],
 ) -> Result<Ready<'r>, AllocError>
-    requires faults { All (λ (fault : BindFault). fault.node < length doc.now.nodes) faults.now }
-    requires passed { All (λ (n : ℕ). n < length doc.now.nodes) passed.now }
-    ensures reading { IfOk result (λ ready. ready.reading ≡ reading_lines doc.now faults.now) }
+    requires { AreWithin doc.now reading.now }
+    ensures reading { IfOk result (λ ready. ready.reading ≡ reading_lines doc.now reading.now.faults.now reading.now.misplaced.now) }
     ensures placed { IfOk result (λ ready. (content : List ℕ) → AreLinesOf lines.now content
-        → ArePlaced doc.now content faults.now passed.now found.now ready.spots.faults.items ready.spots.passed.items ready.spots.findings.items) }
-{
-    let told = Told {
-        faults,
-        passed,
-        found,
-    };
-    prepared_in(alloc, doc, lines, &told)
-}
-
-/// The same in a document.
-fn prepared_in<'r, 's>(
-    alloc: Global,
-    doc: &'s Doc<'_>,
-    lines: &'s LineStarts,
-    told: &Told<'_, '_, '_>,
-) -> Result<Ready<'r>, AllocError>
-    requires faults { All (λ (fault : BindFault). fault.node < length doc.now.nodes) told.now.faults.now }
-    requires passed { All (λ (n : ℕ). n < length doc.now.nodes) told.now.passed.now }
-    ensures reading { IfOk result (λ ready. ready.reading ≡ reading_lines doc.now told.now.faults.now) }
-    ensures placed { IfOk result (λ ready. (content : List ℕ) → AreLinesOf lines.now content
-        → ArePlaced doc.now content told.now.faults.now told.now.passed.now told.now.found.now ready.spots.faults.items ready.spots.passed.items
-        ready.spots.findings.items) }
+        → ArePlaced (validation_of content doc.now reading.now found.now) ready.spots) }
 {
     let ordinals = Ordinals::new(alloc, doc)?;
     let input = ReportInput {
@@ -215,7 +172,7 @@ fn prepared_in<'r, 's>(
         ordinals: &ordinals,
         lines,
     };
-    let ready = prepared_by(alloc, &input, told);
+    let ready = prepared_by(alloc, &input, reading, found);
     drop(ordinals);
     ready
 }
@@ -224,21 +181,23 @@ fn prepared_in<'r, 's>(
 fn prepared_by<'r>(
     alloc: Global,
     input: &ReportInput<'_, '_>,
-    told: &Told<'_, '_, '_>,
+    reading: &ReadingFindings<'_>,
+    found: &[Line<'_>],
 ) -> Result<Ready<'r>, AllocError>
-    requires faults { All (λ (fault : BindFault). fault.node < length input.now.doc.now.nodes) told.now.faults.now }
-    requires passed { All (λ (n : ℕ). n < length input.now.doc.now.nodes) told.now.passed.now }
+    requires within { AreWithin input.now.doc.now reading.now }
     requires ordinals { AreOrdinals input.now.doc.now input.now.ordinals.now }
-    ensures reading { IfOk result (λ ready. ready.reading ≡ reading_lines input.now.doc.now told.now.faults.now) }
+    ensures reading { IfOk result (λ ready. ready.reading ≡ reading_lines input.now.doc.now reading.now.faults.now reading.now.misplaced.now) }
     ensures placed { IfOk result (λ ready. (content : List ℕ) → AreLinesOf input.now.lines.now content
-        → ArePlaced input.now.doc.now content told.now.faults.now told.now.passed.now told.now.found.now ready.spots.faults.items ready.spots.passed.items
-        ready.spots.findings.items) }
+        → ArePlaced (validation_of content input.now.doc.now reading.now found.now) ready.spots) }
 {
-    let reading = reading_of(alloc, input.doc, input.ordinals, told.faults)?;
-    match spots_of(alloc, input, told) {
-        Ok(spots) => Ok(Ready { reading, spots }),
+    let lines = reading_of(alloc, input.doc, input.ordinals, reading)?;
+    match spots_of(alloc, input, reading, found) {
+        Ok(spots) => Ok(Ready {
+            reading: lines,
+            spots,
+        }),
         Err(fault) => {
-            drop(reading);
+            drop(lines);
             Err(fault)
         }
     }
@@ -248,21 +207,22 @@ fn prepared_by<'r>(
 fn spots_of(
     alloc: Global,
     input: &ReportInput<'_, '_>,
-    told: &Told<'_, '_, '_>,
+    reading: &ReadingFindings<'_>,
+    found: &[Line<'_>],
 ) -> Result<Spots, AllocError>
-    requires faults { All (λ (fault : BindFault). fault.node < length input.now.doc.now.nodes) told.now.faults.now }
-    requires passed { All (λ (n : ℕ). n < length input.now.doc.now.nodes) told.now.passed.now }
+    requires within { AreWithin input.now.doc.now reading.now }
     requires ordinals { AreOrdinals input.now.doc.now input.now.ordinals.now }
     ensures { IfOk result (λ spots. (content : List ℕ) → AreLinesOf input.now.lines.now content
-        → ArePlaced input.now.doc.now content told.now.faults.now told.now.passed.now told.now.found.now spots.faults.items
-        spots.passed.items spots.findings.items) }
+        → ArePlaced (validation_of content input.now.doc.now reading.now found.now) spots) }
 {
     let mut spots = Spots {
         faults: Vec::new(alloc),
         passed: Vec::new(alloc),
+        unread: Vec::new(alloc),
+        misplaced: Vec::new(alloc),
         findings: Vec::new(alloc),
     };
-    match push_spots(alloc, input, told, &mut spots) {
+    match push_spots(alloc, input, reading, found, &mut spots) {
         Ok(()) => Ok(spots),
         Err(fault) => {
             drop(spots);
@@ -275,30 +235,29 @@ fn spots_of(
 fn push_spots(
     alloc: Global,
     input: &ReportInput<'_, '_>,
-    told: &Told<'_, '_, '_>,
+    reading: &ReadingFindings<'_>,
+    found: &[Line<'_>],
     spots: &mut Spots,
 ) -> Result<(), AllocError>
-    requires faults { All (λ (fault : BindFault). fault.node < length input.now.doc.now.nodes) told.now.faults.now }
-    requires passed { All (λ (n : ℕ). n < length input.now.doc.now.nodes) told.now.passed.now }
+    requires within { AreWithin input.now.doc.now reading.now }
     requires ordinals { AreOrdinals input.now.doc.now input.now.ordinals.now }
-    requires no_faults { spots.old.faults.items ≡ [] }
-    requires no_passed { spots.old.passed.items ≡ [] }
-    requires no_findings { spots.old.findings.items ≡ [] }
+    requires none { AreNone spots.old }
     ensures { OnOk result ((content : List ℕ) → AreLinesOf input.now.lines.now content
-        → ArePlaced input.now.doc.now content told.now.faults.now told.now.passed.now told.now.found.now spots.new.faults.items spots.new.passed.items
-        spots.new.findings.items) }
+        → ArePlaced (validation_of content input.now.doc.now reading.now found.now) spots.new) }
 {
-    push_fault_spots(input.doc, input.lines, told.faults, &mut spots.faults)?;
-    push_passed(alloc, input, told.passed, &mut spots.passed)?;
-    push_ordered(input, told.found, &mut spots.findings)
+    push_fault_spots(input.doc, input.lines, reading.faults, &mut spots.faults)?;
+    push_located(alloc, input, reading.passed, &mut spots.passed)?;
+    push_unread(alloc, input, reading.unread, &mut spots.unread)?;
+    push_located(alloc, input, reading.misplaced, &mut spots.misplaced)?;
+    push_ordered(input, found, &mut spots.findings)
 }
 
 /// Whether the reading or the rules found something that counts against the document.
 fn counts_against(found: &[Findings<'_>], spots: &Spots) -> bool
-    ensures { result ≡ counts_against (length spots.now.faults.items) (tally_of (rules_in found.now)) }
+    ensures { result ≡ counts_against (length spots.now.faults.items) (length spots.now.misplaced.items) (tally_of (rules_in found.now)) }
 {
     let tally = Tally::of(rules_in(found));
-    !spots.faults.is_empty() || tally.failed > 0 || tally.errors > 0
+    !spots.faults.is_empty() || !spots.misplaced.is_empty() || tally.failed > 0 || tally.errors > 0
 }
 
 /// Writes the report for a person.
@@ -307,8 +266,7 @@ fn write_report<K: Sink>(
     spots: &Spots,
     out: &mut K,
 ) -> Result<(), WriteFault>
-    ensures { Writes result (held_plain (reading_in found.now) (rules_in found.now) spots.now.faults.items spots.now.passed.items spots.now.findings.items)
-        (K.view out.old) (K.view out.new) }
+    ensures { Writes result (held_plain (reading_in found.now) (rules_in found.now) spots.now) (K.view out.old) (K.view out.new) }
 {
     if print_report(found, spots, out) {
         return Err(WriteFault);
@@ -318,8 +276,7 @@ fn write_report<K: Sink>(
 
 /// Prints the report; answers whether a write failed.
 fn print_report<K: Sink>(found: &[Findings<'_>], spots: &Spots, out: &mut K) -> bool
-    ensures { Printed result (held_plain (reading_in found.now) (rules_in found.now) spots.now.faults.items spots.now.passed.items spots.now.findings.items)
-        (K.view out.old) (K.view out.new) }
+    ensures { Printed result (held_plain (reading_in found.now) (rules_in found.now) spots.now) (K.view out.old) (K.view out.new) }
 {
     let mut printer = Printer::new();
     print_held(reading_in(found), rules_in(found), spots, &mut printer, out);
@@ -359,11 +316,12 @@ fn print_held<K: Sink>(
     printer: &mut Printer,
     out: &mut K,
 )
-    ensures { Prints (held_plain reading.now rules.now spots.now.faults.items spots.now.passed.items spots.now.findings.items)
-        printer.old.failed printer.new.failed (K.view out.old) (K.view out.new) }
+    ensures { Prints (held_plain reading.now rules.now spots.now) printer.old.failed printer.new.failed (K.view out.old) (K.view out.new) }
 {
     print_spots::<FaultWord, K>(reading, &spots.faults, printer, out);
-    print_all_passed(&spots.passed, printer, out);
+    print_all_located(b"passed over", &spots.passed, printer, out);
+    print_all_unread(&spots.unread, printer, out);
+    print_all_located(b"misplaced", &spots.misplaced, printer, out);
     print_spots::<OutcomeWord, K>(rules, &spots.findings, printer, out);
-    print_all_counts(&spots.faults, &spots.passed, Tally::of(rules), printer, out);
+    print_all_counts(spots, rules, printer, out);
 }

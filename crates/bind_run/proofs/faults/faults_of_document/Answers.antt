@@ -9,7 +9,13 @@ returns-in-Ok-faults_of_table-clause-finds c =
     let table = known-ok _ c.in-Ok.document_type (sym c.binding_of.ensures ∙ c.in-Ok.is) in
     let e = c.in-Ok-faults_of_table.ensures in
     ap (faults_by_root (rows_in c.args.tables.now) _ c.args.lists.now) table
-    ∙ (λ i. Ok (record { document_type = (sym e.document_type) i; faults = (sym e.faults) i; passed = (sym e.passed_over) i }))
+    ∙ (λ i. Ok (record {
+      document_type = (sym e.document_type) i;
+      faults = (sym e.faults) i;
+      passed = (sym e.passed_over) i;
+      unread = (sym e.unread) i;
+      misplaced = (sym e.misplaced) i;
+    }))
 
 pub returns-in-Err-clause-finds : goal.returns-in-Err-clause-finds
 returns-in-Err-clause-finds c = λ _.

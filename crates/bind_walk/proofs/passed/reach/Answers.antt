@@ -1,7 +1,4 @@
-use Rattle.std.proofs.Common.{◌≡◌, ℕ, Option, Some, None, ap, sym, ◌∙◌}
-use Rattle.std.specs.Prelude.{◌&&◌}
-use Rattle.bind_meaning.specs.Elements.{is_element_kind}
-use Rattle.bind_walk.specs.Passing.{is_left}
+use Rattle.std.proofs.Common.{◌≡◌, ℕ, Option, Some, None, sym, ◌∙◌}
 use Rattle.bind_walk.proofs.PassLemmas.{near_before, some_near, stands_fit, stands_spans, reached_more}
 use Rattle.bind_walk.proofs.passed.reach.Goals as goal
 
@@ -29,9 +26,8 @@ reach_inside-requires-clause-spans g c =
 
 pub returns : goal.returns
 returns g c roots before =
-    reached_more _ _ c.names_lead_through.ensures roots _ c.in-Some.p _ _ c.come_out-around.result c.in_ok-inside-in-Some.inside _ _ _ c.requires.within
+    reached_more _ _ c.names_lead_through.ensures roots _ c.in-Some.p _ _ c.come_out-around.result c.in_ok-inside-in-Some.inside _ _ c.requires.within
     (c.come_out-around.ensures roots
     (near_before _ _ c.names_lead_through.ensures _ _ _ c.args.m c.in-Some.p c.requires.within (sym c.in-Some.ensures.node) before))
     (sym c.in-Some.ensures.node) c.in_ok-inside-in-Some.ensures.place.0 c.in_ok-inside-in-Some.ensures.place.1 c.in_ok-inside-in-Some.ensures.spans
     c.in_ok-push-in-Some.ensures.items
-    (c.is_left_at.ensures ∙ ap (λ k. is_element_kind k && is_left c.come_out-around.result c.in_ok-inside-in-Some.inside) c.kind.ensures)

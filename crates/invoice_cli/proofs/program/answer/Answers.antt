@@ -25,6 +25,9 @@ returns-in-Totals g c = (0, rw (← asked_is c.command_of-asked.result c.command
 pub returns-in-Convert : goal.returns-in-Convert
 returns-in-Convert g c = (0, rw (← asked_is c.command_of-asked.result c.command_of-asked.ensures c.in-Convert.is) (tt, c.convert.ensures))
 
+pub returns-in-ConvertWhole : goal.returns-in-ConvertWhole
+returns-in-ConvertWhole g c = (0, rw (← asked_is c.command_of-asked.result c.command_of-asked.ensures c.in-ConvertWhole.is) (tt, c.convert_whole.ensures))
+
 pub returns-in-Check : goal.returns-in-Check
 returns-in-Check g c =
     let before : Outside = record { shelf = g.S.Shelf.view c.args.shelf.now; out = g.O.Sink.view c.args.out.now; err = g.E.Sink.view c.args.err.now } in

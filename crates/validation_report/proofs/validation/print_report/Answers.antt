@@ -6,8 +6,5 @@ use Rattle.validation_report.proofs.validation.print_report.Goals as goal
 
 pub returns : goal.returns
 returns g c =
-    let spots = c.args.spots.now in
-    let all = Prints-same _ _ _ _ _ _
-    (λ i. held_plain (c.reading_in.ensures i) (c.rules_in.ensures i) spots.faults.items spots.passed.items spots.findings.items)
-    c.print_held.ensures in
+    let all = Prints-same _ _ _ _ _ _ (λ i. held_plain (c.reading_in.ensures i) (c.rules_in.ensures i) c.args.spots.now) c.print_held.ensures in
     all [] (g.K.Sink.view c.args.out.now) (rw c.new-printer.ensures (WritesAll-nil _))

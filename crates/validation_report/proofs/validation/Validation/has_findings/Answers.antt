@@ -10,6 +10,6 @@ pub returns : goal.returns
 returns c =
     let spots = c.self.inside.spots in
     c.counts_against.ensures
-    ∙ (ap (λ (found : List (List Line)). counts_against (length spots.faults.items) (tally_of (rules_in found))) c.deref.ensures.value
-    ∙ sym (ap (λ (r : Report). r.findings) (sym c.self.view_is) ∙
-    held-findings c.self.inside.found.items spots.faults.items spots.passed.items spots.findings.items))
+    ∙ (ap (λ (found : List (List Line)). counts_against (length spots.faults.items) (length spots.misplaced.items) (tally_of (rules_in found)))
+    c.deref.ensures.value
+    ∙ sym (ap (λ (r : Report). r.findings) (sym c.self.view_is) ∙ held-findings c.self.inside.found.items spots))

@@ -12,6 +12,6 @@ returns g c =
     let spots = c.self.inside.spots in
     let is : c.args.self.now.svrl ≡ encode_utf8_all (svrl_report c.deref.result.now) =
     ap (λ (r : Report). r.svrl) (sym c.self.view_is)
-    ∙ (held-svrl c.self.inside.found.items spots.faults.items spots.passed.items spots.findings.items
+    ∙ (held-svrl c.self.inside.found.items spots
     ∙ sym (ap (λ (found : List (List Line)). encode_utf8_all (svrl_report found)) c.deref.ensures.value)) in
     subst (λ t. Writes c.write_svrl.result t (g.K.Sink.view c.args.out.now) (g.K.Sink.view c.write_svrl.new.out)) (sym is) c.write_svrl.ensures

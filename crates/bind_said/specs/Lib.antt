@@ -1,0 +1,4 @@
+pub mod Marks
+pub mod Saying
+pub mod Judged
+pub mod Whole

@@ -18,10 +18,10 @@ _einv() {
             ;;
     esac
     case "$command" in
-        validate) options='--svrl --codes --extension' ;;
+        validate) options='--svrl --json --codes --extension' ;;
         show) options='--json --codes --extension' ;;
-        totals) options='--codes --extension' ;;
-        check) options='--svrl --phase --rules' ;;
+        totals) options='--json --codes --extension' ;;
+        check) options='--svrl --json --phase --rules' ;;
         convert) options='--to --whole --codes --extension' ;;
     esac
     case "$word" in

@@ -35,7 +35,7 @@ use Rattle.job_protocol.specs.Views.{document_read}
 use Rattle.document_jobs.specs.declared.checks.Named as named_code
 use Rattle.document_jobs.specs.declared.checks.Chosen as chosen_code
 use Rattle.document_jobs.specs.Checks.{rule_line, no_phase_line, by_rules, said_protocol, Named, with_name, all_said, Chosen, with_active, with_more, chosen}
-use Rattle.document_jobs.specs.Checks.{by_phase, counts, named_of, chosen_of, all_found, finding_status, report_text, reported, CanJudge, AreChosen, home_line}
+use Rattle.document_jobs.specs.Checks.{by_phase, counts, named_of, chosen_of, all_found, finding_status, reported, CanJudge, AreChosen, home_line}
 use Rattle.document_jobs.specs.Checks.{IsRefusalBy, IsRulesRefusal, IsPhaseRefusal, Reports, judged_next, chosen_next, said_next}
 
 -- ---- a rule file
@@ -250,47 +250,50 @@ accepted_status : (found : List (List Line)) → IsAccepted (finding_status foun
 unfolding finding_status
 accepted_status found = accepted_by _
 
-reported_here : (svrl : Bool) (found : List (List Line)) (status : Status) (shelf : ShelfView) (out out' err : SinkView) → Reports status svrl found out out'
-    → Runs (ends (reported svrl found)) (record { shelf = shelf; out = out; err = err }) (record { shelf = shelf; out = out'; err = err }) status
-reported_here svrl found status shelf out out' err (inl all) =
-    written_here (finding_status found) status (report_text svrl found) shelf out out' err (accepted_status found) (inl all)
-reported_here svrl found status shelf out out' err (inr (inl front)) =
-    written_here (finding_status found) status (report_text svrl found) shelf out out' err (accepted_status found) (inr front)
-reported_here svrl found status shelf out out' err (inr (inr memory)) =
-    rw (memory.0, memory.1) (memory_here (ends (reported svrl found)) shelf out err)
+reported_here : (text : List (List Line) → List ℕ) (found : List (List Line)) (status : Status) (shelf : ShelfView) (out out' err : SinkView)
+    → Reports status text found out out'
+    → Runs (ends (reported text found)) (record { shelf = shelf; out = out; err = err }) (record { shelf = shelf; out = out'; err = err }) status
+reported_here text found status shelf out out' err (inl all) =
+    written_here (finding_status found) status (text found) shelf out out' err (accepted_status found) (inl all)
+reported_here text found status shelf out out' err (inr (inl front)) =
+    written_here (finding_status found) status (text found) shelf out out' err (accepted_status found) (inr front)
+reported_here text found status shelf out out' err (inr (inr memory)) =
+    rw (memory.0, memory.1) (memory_here (ends (reported text found)) shelf out err)
 
 -- ---- the job, behind the rule files
 
 -- a file without the phase, or want of memory
-pub check_unphased : (svrl : Bool) (phase file : List ℕ) (files : List Named) (status : Status) (shelf : ShelfView) (out err err' : SinkView)
+pub check_unphased : (text : List (List Line) → List ℕ) (phase file : List ℕ) (files : List Named) (status : Status) (shelf : ShelfView)
+    (out err err' : SinkView)
     → IsPhaseRefusal phase (chosen phase files) status err err'
-    → Runs (said_next svrl phase file files) (record { shelf = shelf; out = out; err = err }) (record { shelf = shelf; out = out; err = err' }) status
-check_unphased svrl phase file files status shelf out err err' (inl memory) =
-    rw (memory.0, memory.1) (memory_here (said_next svrl phase file files) shelf out err)
-check_unphased svrl phase file files status shelf out err err' (inr told) =
+    → Runs (said_next text phase file files) (record { shelf = shelf; out = out; err = err }) (record { shelf = shelf; out = out; err = err' }) status
+check_unphased text phase file files status shelf out err err' (inl memory) =
+    rw (memory.0, memory.1) (memory_here (said_next text phase file files) shelf out err)
+check_unphased text phase file files status shelf out err err' (inr told) =
     rw told.2 (subst (λ protocol. Runs protocol (record { shelf = shelf; out = out; err = err })
     (record { shelf = shelf; out = out; err = err' }) statuses.RulesRefused)
-    (sym (ap (by_phase phase (chosen_next svrl file)) told.1)) (refused_here statuses.RulesRefused (no_phase_line told.0 phase) shelf out err err' tt told.3))
+    (sym (ap (by_phase phase (chosen_next text file)) told.1)) (refused_here statuses.RulesRefused (no_phase_line told.0 phase) shelf out err err' tt told.3))
 
 -- what follows by what is active
-pub behind_phases : (svrl : Bool) (phase file : List ℕ) (files : List Named) (cs : List Chosen) (shelf shelf' : ShelfView)
+pub behind_phases : (text : List (List Line) → List ℕ) (phase file : List ℕ) (files : List Named) (cs : List Chosen) (shelf shelf' : ShelfView)
     (out out' err here_err err' : SinkView) (status : Status)
     → chosen phase files ≡ Ok cs → here_err ≡ err
-    → Runs (chosen_next svrl file cs) (record { shelf = shelf; out = out; err = here_err }) (record { shelf = shelf'; out = out'; err = err' }) status
-    → Runs (said_next svrl phase file files) (record { shelf = shelf; out = out; err = err }) (record { shelf = shelf'; out = out'; err = err' }) status
-behind_phases svrl phase file files cs shelf shelf' out out' err here_err err' status are quiet further =
+    → Runs (chosen_next text file cs) (record { shelf = shelf; out = out; err = here_err }) (record { shelf = shelf'; out = out'; err = err' }) status
+    → Runs (said_next text phase file files) (record { shelf = shelf; out = out; err = err }) (record { shelf = shelf'; out = out'; err = err' }) status
+behind_phases text phase file files cs shelf shelf' out out' err here_err err' status are quiet further =
     subst (λ protocol. Runs protocol (record { shelf = shelf; out = out; err = err }) (record { shelf = shelf'; out = out'; err = err' }) status)
-    (sym (ap (by_phase phase (chosen_next svrl file)) are))
-    (subst (λ e. Runs (chosen_next svrl file cs) (record { shelf = shelf; out = out; err = e }) (record { shelf = shelf'; out = out'; err = err' }) status)
+    (sym (ap (by_phase phase (chosen_next text file)) are))
+    (subst (λ e. Runs (chosen_next text file cs) (record { shelf = shelf; out = out; err = e }) (record { shelf = shelf'; out = out'; err = err' }) status)
     quiet further)
 
 -- the report on a document that was loaded
-pub check_reported : (svrl : Bool) (file : List ℕ) (cs : List Chosen) (shelf there : ShelfView) (out out' err there_err : SinkView) (status : Status)
+pub check_reported : (text : List (List Line) → List ℕ) (file : List ℕ) (cs : List Chosen) (shelf there : ShelfView) (out out' err there_err : SinkView)
+    (status : Status)
     (doc : Document)
     → HasRead 1 shelf there → there_err ≡ err → IsLoaded document_limits (option_map (bytes_under file) shelf.held) doc
-    → Reports status svrl (all_found (tree_nodes doc) cs) out out'
-    → Runs (chosen_next svrl file cs) (record { shelf = shelf; out = out; err = err }) (record { shelf = there; out = out'; err = there_err }) status
-check_reported svrl file cs shelf there out out' err there_err status doc read same found reports =
-    behind_document file shelf there there out out' err there_err there_err status read same (judged_next svrl cs) doc found
-    (reported_here svrl (all_found (tree_nodes (document_read found.found)) cs) status there out out' there_err
-    (subst (λ (d : Document). Reports status svrl (all_found (tree_nodes d) cs) out out') found.exactly reports))
+    → Reports status text (all_found (tree_nodes doc) cs) out out'
+    → Runs (chosen_next text file cs) (record { shelf = shelf; out = out; err = err }) (record { shelf = there; out = out'; err = there_err }) status
+check_reported text file cs shelf there out out' err there_err status doc read same found reports =
+    behind_document file shelf there there out out' err there_err there_err status read same (judged_next text cs) doc found
+    (reported_here text (all_found (tree_nodes (document_read found.found)) cs) status there out out' there_err
+    (subst (λ (d : Document). Reports status text (all_found (tree_nodes d) cs) out out') found.exactly reports))

@@ -34,7 +34,12 @@ use Rattle.job_protocol.specs.declared.status.Status.TheVariants as statuses
 use Rattle.job_protocol.specs.Outside.{TakesOrFails}
 use Rattle.job_protocol.specs.Protocol.{Answer, Protocol, ends, refusal, by_result, document_protocol}
 use Rattle.job_protocol.specs.Libraries.{library_protocol}
-use Rattle.job_protocol.specs.Views.{document_read}
+use Rattle.job_protocol.specs.Views.{document_read, texts_of}
+use Rattle.json_text.specs.Layout.{document}
+use Rattle.findings_json.specs.FindingsJson.{findings_json}
+use Rattle.job_protocol.specs.declared.formats.ReportFormat.{ReportFormat}
+use Rattle.job_protocol.specs.declared.formats.ReportFormat.TheVariants as formats
+use Rattle.document_jobs.specs.declared.checks.Checking.{Checking}
 use Rattle.document_jobs.specs.Queries.{placed, syntax_text, type_text}
 use Rattle.document_jobs.specs.declared.checks.Named as code
 use Rattle.document_jobs.specs.declared.checks.Chosen as chosen_code
@@ -167,32 +172,38 @@ counts = is_found (λ (f : Finding). finding_counts f.outcome f.level)
 unfoldable pub finding_status : List (List Line) → Status
 finding_status found = if list_any counts (all_lines found) then statuses.Findings else statuses.Done
 
--- the report in SVRL, or the plain one
-abbrev pub report_text : Bool → List (List Line) → List ℕ
-report_text true found = encode_utf8_all (svrl_report found)
-report_text false found = plain_report found
+-- the report in a format, by the names of the rule files and of the document's
+abbrev pub report_text : ReportFormat → List (List ℕ) → List ℕ → List (List Line) → List ℕ
+report_text formats.Plain names file found = plain_report found
+report_text formats.Svrl names file found = encode_utf8_all (svrl_report found)
+report_text formats.Json names file found = encode_utf8_all (document (findings_json (chars file) (map chars names) found))
 
-abbrev pub reported : Bool → List (List Line) → Answer
-reported svrl found = record { status = finding_status found; out = report_text svrl found; err = [] }
+-- what is answered by the text of what is found
+abbrev pub reported : (List (List Line) → List ℕ) → List (List Line) → Answer
+reported text found = record { status = finding_status found; out = text found; err = [] }
 
 -- the rule files before the document, and one report over all of them
-abbrev pub check_protocol : Bool → Option (List ℕ) → List (List ℕ) → List ℕ → Protocol
-check_protocol svrl phase names file =
-    chosen_protocol (phase_asked phase) names (λ files. document_protocol file (λ found. ends (reported svrl (all_found (tree_nodes (document_read found))
-    files))))
+abbrev pub check_protocol : ReportFormat → Option (List ℕ) → List (List ℕ) → List ℕ → Protocol
+check_protocol format phase names file =
+    chosen_protocol (phase_asked phase) names (λ files. document_protocol file (λ found. ends (reported (report_text format names file)
+    (all_found (tree_nodes (document_read found)) files))))
 
 -- ---- what the code has
 
--- what is judged once it is known what is active: the document
-abbrev pub judged_next : Bool → List Chosen → profile.Document → Protocol
-judged_next svrl files found = ends (reported svrl (all_found (tree_nodes (document_read found)) files))
+-- the text of a report as it is asked for
+abbrev pub report_asked : Checking → List (List Line) → List ℕ
+report_asked asked found = report_text asked.format (texts_of asked.rules.now) asked.file.now found
 
-abbrev pub chosen_next : Bool → List ℕ → List Chosen → Protocol
-chosen_next svrl file files = document_protocol file (judged_next svrl files)
+-- what is judged once it is known what is active: the document
+abbrev pub judged_next : (List (List Line) → List ℕ) → List Chosen → profile.Document → Protocol
+judged_next text files found = ends (reported text (all_found (tree_nodes (document_read found)) files))
+
+abbrev pub chosen_next : (List (List Line) → List ℕ) → List ℕ → List Chosen → Protocol
+chosen_next text file files = document_protocol file (judged_next text files)
 
 -- what follows once all rule files are read
-abbrev pub said_next : Bool → List ℕ → List ℕ → List Named → Protocol
-said_next svrl phase file files = by_phase phase (chosen_next svrl file) (chosen phase files)
+abbrev pub said_next : (List (List Line) → List ℕ) → List ℕ → List ℕ → List Named → Protocol
+said_next text phase file files = by_phase phase (chosen_next text file) (chosen phase files)
 
 -- a rule file as the definitions have it
 abbrev pub named_of : code.Named → Named
@@ -228,7 +239,7 @@ IsPhaseRefusal phase found status before after =
     ⊎ ((name : List ℕ) × (found ≡ Err name) × (status ≡ statuses.RulesRefused) × TakesOrFails (no_phase_line name phase) before after)
 
 -- The report was written, or a front of it where a write failed; where memory ran out nothing was.
-abbrev pub Reports : Status → Bool → List (List Line) → SinkView → SinkView → Type 0
-Reports status svrl found before after =
-    ((status ≡ finding_status found) × WritesAll (report_text svrl found) before after)
-    ⊎ (((status ≡ statuses.WriteFault) × WritesFront (report_text svrl found) before after) ⊎ ((status ≡ statuses.Memory) × (after ≡ before)))
+abbrev pub Reports : Status → (List (List Line) → List ℕ) → List (List Line) → SinkView → SinkView → Type 0
+Reports status text found before after =
+    ((status ≡ finding_status found) × WritesAll (text found) before after)
+    ⊎ (((status ≡ statuses.WriteFault) × WritesFront (text found) before after) ⊎ ((status ≡ statuses.Memory) × (after ≡ before)))

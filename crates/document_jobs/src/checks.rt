@@ -7,14 +7,16 @@ ghost use Rattle.schematron_meaning.specs.Rules.{rules_of};
 ghost use Rattle.schematron_rules.specs.Seen.{seen_rules};
 ghost use Rattle.job_protocol.specs.Runs.{Runs, Continues, Fails};
 ghost use Rattle.job_protocol.specs.Views.{text_of, texts_of};
+ghost use Rattle.job_protocol.specs.declared.formats.ReportFormat.TheVariants as ReportFormat;
 ghost use Rattle.document_jobs.specs.Checks as spec;
 ghost use Rattle.document_jobs.specs.Checks.{named_of, chosen_of, AreChosen, IsRuleRefusal, IsRulesRefusal, IsPhaseRefusal, Reports, said_protocol, all_said};
 ghost use Rattle.document_jobs.specs.Checks.{chosen_next, said_next, check_protocol};
 
 use crate::refusals::{tell_at_home, tell_no_phase};
 use bumpalo::Bump;
+use findings_json::print_findings;
 use inv_base::{Shelf, Sink, Steps};
-use job_protocol::{Status, load_document, load_library};
+use job_protocol::{ReportFormat, Status, load_document, load_library};
 use node_arena::Doc;
 use rule_library::Library;
 use schematron_compile::{Active, PhaseFault, RuleFault, Rules, compile};
@@ -32,8 +34,8 @@ const DEFAULT_PHASE: &str = "#DEFAULT";
 /// What is asked of rule files and a document.
 #[derive(Clone, Copy)]
 pub struct Checking<'c, 'w> {
-    /// Whether the report is to be SVRL.
-    pub svrl: bool,
+    /// How the report is to be written.
+    pub format: ReportFormat,
     /// The phase whose patterns are judged, where one is named.
     pub phase: Option<&'w str>,
     pub rules: &'c [&'w str],
@@ -75,7 +77,7 @@ pub fn check<S: Shelf, O: Sink, E: Sink>(
     out: &mut O,
     err: &mut E,
 ) -> Status
-    ensures { Runs (check_protocol asked.now.svrl (option_map text_of asked.now.phase) (texts_of asked.now.rules.now) asked.now.file.now)
+    ensures { Runs (check_protocol asked.now.format (option_map text_of asked.now.phase) (texts_of asked.now.rules.now) asked.now.file.now)
         (record { shelf = S.view shelf.old; out = O.view out.old; err = E.view err.old })
         (record { shelf = S.view shelf.new; out = O.view out.new; err = E.view err.new }) result }
 {
@@ -94,7 +96,7 @@ fn check_by<L: Ledger, S: Shelf, O: Sink, E: Sink>(
     requires name { ledger.name ≡ L.name }
     requires parts { ledger.parts ≡ L.parts }
     requires some { 0 < ledger.parts }
-    ensures { Runs (check_protocol asked.now.svrl (option_map text_of asked.now.phase) (texts_of asked.now.rules.now) asked.now.file.now)
+    ensures { Runs (check_protocol asked.now.format (option_map text_of asked.now.phase) (texts_of asked.now.rules.now) asked.now.file.now)
         (record { shelf = S.view shelf.old; out = O.view out.old; err = E.view err.old })
         (record { shelf = S.view shelf.new; out = O.view out.new; err = E.view err.new }) result }
 {
@@ -119,7 +121,7 @@ fn check_with<L: Ledger, S: Shelf, O: Sink, E: Sink>(
     err: &mut E,
     steps: &mut Steps<L>,
 ) -> Status
-    ensures { Runs (said_next asked.now.svrl (spec.phase_asked (option_map text_of asked.now.phase)) asked.now.file.now (map named_of files.now))
+    ensures { Runs (said_next (spec.report_asked asked.now) (spec.phase_asked (option_map text_of asked.now.phase)) asked.now.file.now (map named_of files.now))
         (record { shelf = S.view shelf.old; out = O.view out.old; err = E.view err.old })
         (record { shelf = S.view shelf.new; out = O.view out.new; err = E.view err.new }) result }
 {
@@ -144,7 +146,7 @@ fn check_document<L: Ledger, S: Shelf, O: Sink, E: Sink>(
     steps: &mut Steps<L>,
 ) -> Status
     requires { AreChosen (map chosen_of chosen.now) }
-    ensures { Runs (chosen_next asked.now.svrl asked.now.file.now (map chosen_of chosen.now))
+    ensures { Runs (chosen_next (spec.report_asked asked.now) asked.now.file.now (map chosen_of chosen.now))
         (record { shelf = S.view shelf.old; out = O.view out.old; err = E.view err.old })
         (record { shelf = S.view shelf.new; out = O.view out.new; err = E.view err.new }) result }
 {
@@ -153,7 +155,7 @@ fn check_document<L: Ledger, S: Shelf, O: Sink, E: Sink>(
         Ok(doc) => doc,
         Err(status) => return status,
     };
-    report(alloc, asked.svrl, chosen, &doc, out, steps)
+    report(alloc, asked, chosen, &doc, out, steps)
 }
 
 /// The phase that is asked for.
@@ -291,20 +293,20 @@ fn choose<'r, E: Sink>(
 /// Writes what the rules find in a document. All of it is found before the first byte is written.
 fn report<L: Ledger, O: Sink>(
     alloc: Global,
-    svrl: bool,
+    asked: &Checking<'_, '_>,
     chosen: &[Chosen<'_>],
     doc: &Doc<'_>,
     out: &mut O,
     steps: &mut Steps<L>,
 ) -> Status
     requires { AreChosen (map chosen_of chosen.now) }
-    ensures { Reports result svrl (spec.all_found (tree_nodes doc.now) (map chosen_of chosen.now)) (O.view out.old) (O.view out.new) }
+    ensures { Reports result (spec.report_asked asked.now) (spec.all_found (tree_nodes doc.now) (map chosen_of chosen.now)) (O.view out.old) (O.view out.new) }
 {
     let found = match judge_all(alloc, chosen, doc, steps) {
         Ok(found) => found,
         Err(_) => return Status::Memory,
     };
-    match write_report(svrl, &found, out) {
+    match write_report(asked, &found, out) {
         Ok(()) => finding_status(&found),
         Err(_) => Status::WriteFault,
     }
@@ -327,15 +329,34 @@ fn judge_all<'r, L: Ledger>(
     Ok(found)
 }
 
-/// Writes the report in SVRL, or the plain one.
-fn write_report<O: Sink>(svrl: bool, found: &[Findings<'_>], out: &mut O) -> Result<(), WriteFault>
-    ensures { Writes result (spec.report_text svrl found.now) (O.view out.old) (O.view out.new) }
+/// Writes the report as it is asked for.
+fn write_report<O: Sink>(
+    asked: &Checking<'_, '_>,
+    found: &[Findings<'_>],
+    out: &mut O,
+) -> Result<(), WriteFault>
+    ensures { Writes result (spec.report_asked asked.now found.now) (O.view out.old) (O.view out.new) }
 {
-    if svrl {
-        write_svrl(found, out)
-    } else {
-        write_plain(found, out)
+    match asked.format {
+        ReportFormat::Plain => write_plain(found, out),
+        ReportFormat::Svrl => write_svrl(found, out),
+        ReportFormat::Json => write_json(asked.file, asked.rules, found, out),
     }
+}
+
+/// Writes the report as JSON.
+fn write_json<O: Sink>(
+    file: &str,
+    rules: &[&str],
+    found: &[Findings<'_>],
+    out: &mut O,
+) -> Result<(), WriteFault>
+    ensures { Writes result (spec.report_text ReportFormat.Json (texts_of rules.now) file.now found.now) (O.view out.old) (O.view out.new) }
+{
+    if print_findings(file, rules, found, out) {
+        return Err(WriteFault);
+    }
+    Ok(())
 }
 
 /// The status of a report.

@@ -5,5 +5,5 @@ mod fronts;
 mod names;
 mod printing;
 
-pub use names::{print_context, print_name, print_term, put_term};
+pub use names::{print_context, print_name, print_term, put_slot, put_term};
 pub use printing::print_listing;

@@ -104,7 +104,8 @@ fn put_inner(text: &mut Short, inner: Option<Slot>)
     }
 }
 
-fn put_slot(text: &mut Short, slot: Slot)
+/// Puts an occurrence of a group behind a short text, as `BG-25[1]`: at most 19 bytes.
+pub fn put_slot(text: &mut Short, slot: Slot)
     requires { array_vec_len text.old + 19 ≤ 128 }
     ensures { Composes (slot_text slot) 19 text.old text.new }
 {

@@ -67,7 +67,8 @@ fn put(piece: &str, key: &mut String) -> Result<(), AllocError>
     key.push_str(piece)
 }
 
-fn number_text<'a>(number: &Dec, buf: &'a mut [u8; 40]) -> &'a str
+/// The text of a number in its shortest form.
+pub fn number_text<'a>(number: &Dec, buf: &'a mut [u8; 40]) -> &'a str
     ensures text { chars result.now ≡ decimal_text number.now }
     ensures in_range { IsDecimal number.now }
 {

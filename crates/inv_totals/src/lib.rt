@@ -14,4 +14,5 @@ mod sums;
 
 pub use comparing::differences;
 pub use found::{Difference, Differences};
+pub use keys::number_text;
 pub use printing::write_differences;

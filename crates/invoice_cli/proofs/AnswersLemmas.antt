@@ -255,11 +255,11 @@ none_read held protocol a n file is reads = end_reads held a n file (subst (λ c
 files_want : (job : Job) → NamesFiles job → WantsMemory job
 files_want (outline file) names = names
 files_want (show format sources file) names = names
-files_want (totals sources file) names = names
+files_want (totals format sources file) names = names
 files_want (convert syntax sources file) names = names
 files_want (convert_whole syntax sources file) names = names
-files_want (check svrl phase rules file) names = names
-files_want (validate svrl sources file) names = names
+files_want (check format phase rules file) names = names
+files_want (validate format sources file) names = names
 files_want (extract number file) names = names
 files_want (query expression file) names = names
 files_want (trial lines) names = absurd names

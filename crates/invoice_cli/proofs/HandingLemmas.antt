@@ -57,11 +57,11 @@ module _ (start shown now : SinkView) (status status' : Status) where
     pub ends_handed : (steps : ℕ) (job : Job) → Ends steps job Before Shown status → Ends steps job Before Now status'
     ends_handed steps (outline file) ends = (ends.0, runs steps (outline file) ends.1)
     ends_handed steps (show format sources file) ends = (tt, runs steps (show format sources file) ends.1)
-    ends_handed steps (totals sources file) ends = (tt, runs steps (totals sources file) ends.1)
+    ends_handed steps (totals format sources file) ends = (tt, runs steps (totals format sources file) ends.1)
     ends_handed steps (convert syntax sources file) ends = (tt, runs steps (convert syntax sources file) ends.1)
     ends_handed steps (convert_whole syntax sources file) ends = (tt, runs steps (convert_whole syntax sources file) ends.1)
-    ends_handed steps (check svrl phase rules file) ends = (tt, runs steps (check svrl phase rules file) ends.1)
-    ends_handed steps (validate svrl sources file) ends = (tt, runs steps (validate svrl sources file) ends.1)
+    ends_handed steps (check format phase rules file) ends = (tt, runs steps (check format phase rules file) ends.1)
+    ends_handed steps (validate format sources file) ends = (tt, runs steps (validate format sources file) ends.1)
     ends_handed steps (extract number file) ends = (tt, runs steps (extract number file) ends.1)
     ends_handed steps (query expression file) ends =
         pieces_handed (protocol_of steps (query expression file)) shelf shelf' start shown now err err' status status' handed ends
@@ -80,15 +80,16 @@ pub answers_of_ends : (steps : ℕ) (job : Job) (before after : Outside) (status
 answers_of_ends steps (outline file) before after status ends = answers_of_run steps (outline file) tt before after status (λ name is. ends.0) ends.1
 answers_of_ends steps (show format sources file) before after status ends =
     answers_of_run steps (show format sources file) tt before after status (λ name is. cc) ends.1
-answers_of_ends steps (totals sources file) before after status ends = answers_of_run steps (totals sources file) tt before after status (λ name is. cc) ends.1
+answers_of_ends steps (totals format sources file) before after status ends = answers_of_run steps (totals format sources file) tt before after status (λ name
+    is. cc) ends.1
 answers_of_ends steps (convert syntax sources file) before after status ends =
     answers_of_run steps (convert syntax sources file) tt before after status (λ name is. cc) ends.1
 answers_of_ends steps (convert_whole syntax sources file) before after status ends =
     answers_of_run steps (convert_whole syntax sources file) tt before after status (λ name is. cc) ends.1
-answers_of_ends steps (check svrl phase rules file) before after status ends =
-    answers_of_run steps (check svrl phase rules file) tt before after status (λ name is. cc) ends.1
-answers_of_ends steps (validate svrl sources file) before after status ends =
-    answers_of_run steps (validate svrl sources file) tt before after status (λ name is. cc) ends.1
+answers_of_ends steps (check format phase rules file) before after status ends =
+    answers_of_run steps (check format phase rules file) tt before after status (λ name is. cc) ends.1
+answers_of_ends steps (validate format sources file) before after status ends =
+    answers_of_run steps (validate format sources file) tt before after status (λ name is. cc) ends.1
 answers_of_ends steps (extract number file) before after status ends = answers_of_run steps (extract number file) tt before after status (λ name is. cc) ends.1
 answers_of_ends steps (query expression file) before after status ends =
     answers_of_pieces steps (query expression file) tt before after tt status (λ name is. cc) ends

@@ -7,9 +7,11 @@ use Rattle.bind_meaning.specs.declared.tables.Syntax.{Syntax}
 use Rattle.invoice_cli.specs.declared.options.Optioned.{Optioned}
 use Rattle.invoice_cli.specs.declared.options.Optioned.TheVariants as commands
 use Rattle.invoice_cli.specs.declared.options.Switch.{Switch}
-use Rattle.invoice_cli.specs.Job.{Job, outline, show, totals, convert, convert_whole, check, validate, extract, query, trial, help, version, bad_word, Options, none_given}
+use Rattle.invoice_cli.specs.Job.{Job, outline, show, totals, convert, convert_whole, check, validate, extract, query, trial, help, version, bad_word, Options}
+use Rattle.invoice_cli.specs.Job.{none_given}
 use Rattle.invoice_cli.specs.Job.{is_option, with_no_more, last_operand, offered, takes_value, with_flag, with_value, or_bad, last_word, optioned, sources}
-use Rattle.invoice_cli.specs.Job.{format_of, show_of, totals_of, convert_of, check_of, validate_of, is_digit, digits_value, at_most, number_up_to}
+use Rattle.invoice_cli.specs.Job.{format_of, report_format, show_of, totals_of, convert_of, check_of, validate_of, is_digit, digits_value, at_most}
+use Rattle.invoice_cli.specs.Job.{number_up_to}
 use Rattle.invoice_cli.specs.Job.{by_number, extract_of}
 use Rattle.invoice_cli.specs.Job.{conversion, most_lines, try_of, query_of, job}
 use Rattle.invoice_jobs.specs.Sources.{Sources}
@@ -123,12 +125,16 @@ few-convert given number words = by_target given.target where
 few-check : (given : Options) (number : ℕ) (words : List (List ℕ)) → HasFew (check_of given number words)
 few-check given number words = by_rules given.rules where
   by_rules : (rules : List (List ℕ)) →
-      HasFew (elim rules [ [] ↦ bad_word number | (file ∷ files) ↦ last_operand (check given.svrl given.phase (file ∷ files)) number words ])
+      HasFew (elim rules [
+        | [] ↦ bad_word number
+        | (file ∷ files) ↦ last_operand (check (report_format given.json given.svrl) given.phase (file ∷ files))
+            number words
+      ])
   by_rules [] = tt
-  by_rules (file ∷ files) = few-operand (check given.svrl given.phase (file ∷ files)) number words (λ word. tt)
+  by_rules (file ∷ files) = few-operand (check (report_format given.json given.svrl) given.phase (file ∷ files)) number words (λ word. tt)
 
 few-validate : (given : Options) (number : ℕ) (words : List (List ℕ)) → HasFew (validate_of given number words)
-few-validate given number words = few-operand (validate given.svrl (sources given)) number words (λ word. tt)
+few-validate given number words = few-operand (validate (report_format given.json given.svrl) (sources given)) number words (λ word. tt)
 
 few-extract : (words : List (List ℕ)) → HasFew (extract_of words)
 few-extract [] = tt
@@ -163,7 +169,8 @@ few-job (command ∷ words) =
     (few-optioned commands.Show show_of
     (λ given number ws. few-operand (show (format_of given.json) (sources given)) number ws (λ word. tt)) none_given 2 words)
     (few-if (bytes_eq command (codes "totals")) _ _
-    (few-optioned commands.Totals totals_of (λ given number ws. few-operand (totals (sources given)) number ws (λ word. tt)) none_given 2 words)
+    (few-optioned commands.Totals totals_of (λ given number ws. few-operand (totals (format_of given.json)
+    (sources given)) number ws (λ word. tt)) none_given 2 words)
     (few-if (bytes_eq command (codes "convert")) _ _ (few-optioned commands.Convert convert_of few-convert none_given 2 words)
     (few-if (bytes_eq command (codes "check")) _ _ (few-optioned commands.Check check_of few-check none_given 2 words)
     (few-if (bytes_eq command (codes "validate")) _ _ (few-optioned commands.Validate validate_of few-validate none_given 2 words)

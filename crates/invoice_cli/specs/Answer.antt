@@ -23,11 +23,11 @@ version_text = VERSION.now ++ (RULES_VERSION.now ++ 0xA ∷ [])
 abbrev pub protocol_of : ℕ → Job → Protocol
 protocol_of steps (outline file) = outline_protocol file
 protocol_of steps (show format sources file) = show_protocol format sources file
-protocol_of steps (totals sources file) = totals_protocol sources file
+protocol_of steps (totals format sources file) = totals_protocol format sources file
 protocol_of steps (convert syntax sources file) = convert_protocol syntax sources file
 protocol_of steps (convert_whole syntax sources file) = convert_whole_protocol syntax sources file
-protocol_of steps (check svrl phase rules file) = check_protocol svrl phase rules file
-protocol_of steps (validate svrl sources file) = validate_protocol svrl sources file
+protocol_of steps (check format phase rules file) = check_protocol format phase rules file
+protocol_of steps (validate format sources file) = validate_protocol format sources file
 protocol_of steps (extract number file) = extract_protocol number file
 protocol_of steps (query expression file) = query_protocol expression file
 protocol_of steps (trial lines) = ends (done (trial_text (trial_of lines steps)))

@@ -5,6 +5,8 @@ use Rattle.std.specs.Global.{Global}
 use Rattle.std.specs.List.{starts_with}
 use Rattle.bind_meaning.specs.declared.tables.Syntax.{Syntax}
 use Rattle.bind_meaning.specs.declared.tables.Syntax.TheVariants as syntaxes
+use Rattle.job_protocol.specs.declared.formats.ReportFormat.{ReportFormat}
+use Rattle.job_protocol.specs.declared.formats.ReportFormat.TheVariants as report_formats
 use Rattle.invoice_jobs.specs.Sources.{Sources}
 use Rattle.invoice_jobs.specs.declared.formats.AnswerFormat.{AnswerFormat}
 use Rattle.invoice_jobs.specs.declared.formats.AnswerFormat.TheVariants as formats
@@ -14,19 +16,20 @@ use Rattle.invoice_cli.specs.declared.options.Switch.{Switch}
 use Rattle.invoice_cli.specs.declared.options.Switch.TheVariants as switches
 
 -- The outline of a file; the terms of an invoice, as lines or as JSON, by the code lists of a file or the built-in ones and by
--- the terms that another file adds or none; where its totals differ, likewise; the invoice in a syntax, likewise; the same, where nothing of its document is lost; what rule files find in
--- a document, in SVRL or plain, by the patterns of a phase or those that each file has by default; all that is wrong with
--- an invoice, in SVRL or plain, by such files beside it; an invoice's attached document of that number; the value of an
--- expression at a document; a trial of the whole tool on a generated invoice of so many lines; the help; the version; or
--- the number of the first word that fits no command, counted from 1, where a missing word counts as one behind the last.
+-- the terms that another file adds or none; where its totals differ, likewise, as lines or as JSON; the invoice in a syntax,
+-- likewise; the same, where nothing of its document is lost; what rule files find in a document, plain, in SVRL or as JSON, by
+-- the patterns of a phase or those that each file has by default; all that is wrong with an invoice, in these forms, by such
+-- files beside it; an invoice's attached document of that number; the value of an expression at a document; a trial of the
+-- whole tool on a generated invoice of so many lines; the help; the version; or the number of the first word that fits no
+-- command, counted from 1, where a missing word counts as one behind the last.
 pub data Job : Type 0 where
   outline : List ℕ → Job
   show : AnswerFormat → Sources → List ℕ → Job
-  totals : Sources → List ℕ → Job
+  totals : AnswerFormat → Sources → List ℕ → Job
   convert : Syntax → Sources → List ℕ → Job
   convert_whole : Syntax → Sources → List ℕ → Job
-  check : Bool → Option (List ℕ) → List (List ℕ) → List ℕ → Job
-  validate : Bool → Sources → List ℕ → Job
+  check : ReportFormat → Option (List ℕ) → List (List ℕ) → List ℕ → Job
+  validate : ReportFormat → Sources → List ℕ → Job
   extract : ℕ → List ℕ → Job
   query : List ℕ → List ℕ → Job
   trial : ℕ → Job
@@ -50,8 +53,8 @@ last_operand job number (word ∷ words) = if is_option word then bad_word numbe
 
 -- ---- options: between the command and its operands, in any order
 
--- the files of code lists and of extension terms, and the syntax to write; whether a conversion has to keep all, whether the answer is JSON and whether the report is SVRL,
--- the phase, and the rule files
+-- the files of code lists and of extension terms, and the syntax to write; whether a conversion has to keep all, whether the
+-- answer is JSON and whether the report is SVRL, the phase, and the rule files
 pub record Options : Type 0 where
   pub codes_file : Option (List ℕ)
   pub extension_file : Option (List ℕ)
@@ -85,29 +88,32 @@ has commands.Show switches.Json = true
 has commands.Show _ = false
 has commands.Totals switches.CodeLists = true
 has commands.Totals switches.Extension = true
+has commands.Totals switches.Json = true
 has commands.Totals _ = false
 has commands.Convert switches.CodeLists = true
 has commands.Convert switches.Extension = true
 has commands.Convert switches.SyntaxToWrite = true
 has commands.Convert switches.Whole = true
 has commands.Convert _ = false
+has commands.Check switches.Json = true
 has commands.Check switches.Svrl = true
 has commands.Check switches.Phase = true
 has commands.Check switches.RuleFile = true
 has commands.Check _ = false
 has commands.Validate switches.CodeLists = true
 has commands.Validate switches.Extension = true
+has commands.Validate switches.Json = true
 has commands.Validate switches.Svrl = true
 has commands.Validate _ = false
 
--- An option may be given once, that of a rule file sixteen times.
+-- An option may be given once, that of a rule file sixteen times. A report is in SVRL or as JSON, and not both.
 abbrev pub may_follow : Options → Switch → Bool
 may_follow given switches.CodeLists = is_none given.codes_file
 may_follow given switches.Extension = is_none given.extension_file
 may_follow given switches.SyntaxToWrite = is_none given.target
 may_follow given switches.Whole = not given.whole
-may_follow given switches.Json = not given.json
-may_follow given switches.Svrl = not given.svrl
+may_follow given switches.Json = not given.json && not given.svrl
+may_follow given switches.Svrl = not given.svrl && not given.json
 may_follow given switches.Phase = is_none given.phase
 may_follow given switches.RuleFile = nat_lt (length given.rules) 16
 
@@ -193,11 +199,16 @@ abbrev pub format_of : Bool → AnswerFormat
 format_of true = formats.Json
 format_of false = formats.Lines
 
+abbrev pub report_format : Bool → Bool → ReportFormat
+report_format true svrl = report_formats.Json
+report_format false true = report_formats.Svrl
+report_format false false = report_formats.Plain
+
 abbrev pub show_of : Options → ℕ → List (List ℕ) → Job
 show_of given number words = last_operand (show (format_of given.json) (sources given)) number words
 
 abbrev pub totals_of : Options → ℕ → List (List ℕ) → Job
-totals_of given number words = last_operand (totals (sources given)) number words
+totals_of given number words = last_operand (totals (format_of given.json) (sources given)) number words
 
 abbrev pub conversion : Bool → Syntax → Sources → List ℕ → Job
 conversion true = convert_whole
@@ -214,11 +225,11 @@ convert_of given number words = elim given.target [
 abbrev pub check_of : Options → ℕ → List (List ℕ) → Job
 check_of given number words = elim given.rules [
   | [] ↦ bad_word number
-  | (file ∷ files) ↦ last_operand (check given.svrl given.phase (file ∷ files)) number words
+  | (file ∷ files) ↦ last_operand (check (report_format given.json given.svrl) given.phase (file ∷ files)) number words
 ]
 
 abbrev pub validate_of : Options → ℕ → List (List ℕ) → Job
-validate_of given number words = last_operand (validate given.svrl (sources given)) number words
+validate_of given number words = last_operand (validate (report_format given.json given.svrl) (sources given)) number words
 
 abbrev pub is_digit : ℕ → Bool
 is_digit c = nat_le 48 c && nat_le c 57

@@ -152,7 +152,7 @@ fn has(command: Optioned, switch: Switch) -> bool
             _ => false,
         },
         Optioned::Totals => match switch {
-            Switch::CodeLists | Switch::Extension => true,
+            Switch::CodeLists | Switch::Extension | Switch::Json => true,
             _ => false,
         },
         Optioned::Convert => match switch {
@@ -160,11 +160,11 @@ fn has(command: Optioned, switch: Switch) -> bool
             _ => false,
         },
         Optioned::Check => match switch {
-            Switch::Svrl | Switch::Phase | Switch::RuleFile => true,
+            Switch::Json | Switch::Svrl | Switch::Phase | Switch::RuleFile => true,
             _ => false,
         },
         Optioned::Validate => match switch {
-            Switch::CodeLists | Switch::Extension | Switch::Svrl => true,
+            Switch::CodeLists | Switch::Extension | Switch::Json | Switch::Svrl => true,
             _ => false,
         },
     }
@@ -179,8 +179,8 @@ fn may_follow(given: &Given<'_>, switch: Switch) -> bool
         Switch::Extension => given.sources.extension_file.is_none(),
         Switch::SyntaxToWrite => given.target.is_none(),
         Switch::Whole => !given.whole,
-        Switch::Json => !given.json,
-        Switch::Svrl => !given.svrl,
+        Switch::Json => !given.json && !given.svrl,
+        Switch::Svrl => !given.svrl && !given.json,
         Switch::Phase => given.phase.is_none(),
         Switch::RuleFile => given.rules.has_room(),
     }

@@ -95,24 +95,26 @@ fn answer<S: Shelf, O: Sink, E: Sink>(
         Command::Show(format, sources, file) => {
             show(alloc, format, &sources, file, shelf, out, err)
         }
-        Command::Totals(sources, file) => totals(alloc, &sources, file, shelf, out, err),
+        Command::Totals(format, sources, file) => {
+            totals(alloc, format, &sources, file, shelf, out, err)
+        }
         Command::Convert(syntax, sources, file) => {
             convert(alloc, syntax, &sources, file, shelf, out, err)
         }
         Command::ConvertWhole(syntax, sources, file) => {
             convert_whole(alloc, syntax, &sources, file, shelf, out, err)
         }
-        Command::Check(svrl, phase, file) => {
+        Command::Check(format, phase, file) => {
             let checking = Checking {
-                svrl,
+                format,
                 phase,
                 rules: asked.rules.as_slice(),
                 file,
             };
             check(alloc, &checking, shelf, out, err)
         }
-        Command::Validate(svrl, sources, file) => {
-            validate(alloc, svrl, &sources, file, shelf, out, err)
+        Command::Validate(format, sources, file) => {
+            validate(alloc, format, &sources, file, shelf, out, err)
         }
         Command::Extract(number, file) => extract(alloc, number, file, shelf, out, err),
         Command::Query(expression, file) => query(alloc, expression, file, shelf, out, err),

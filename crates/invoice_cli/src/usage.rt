@@ -4,25 +4,28 @@ pub const HELP: &[u8] = b"usage: einv COMMAND [OPTION ..] FILE
 Checks, lists, converts and queries e-invoices (EN 16931) in UBL 2.1 and CII.
 
 see whether an invoice is right, and what is wrong with it
-  einv validate [--svrl] [--codes LISTS] [--extension TERMS] FILE
+  einv validate [--svrl | --json] [--codes LISTS] [--extension TERMS] FILE
       tells all faults of its terms, elements that hold no term, values that
       nobody reads, elements out of order, and broken rules of EN 16931, with
       line and column; the rules are built in
       --svrl          the report in SVRL, the XML of Schematron reports
+      --json          the report as JSON
 
 read an invoice
   einv show [--json] [--codes LISTS] [--extension TERMS] FILE
       lists its business terms, a line each
       --json          the terms as JSON; repeated groups are arrays
-  einv totals [--codes LISTS] [--extension TERMS] FILE
+  einv totals [--json] [--codes LISTS] [--extension TERMS] FILE
       lists each total that isn't what the other values make of it
+      --json          the differences as JSON
 
 check any XML document by rules of your own
-  einv check [--svrl] [--phase PHASE] --rules RULES [--rules RULES ..] FILE
+  einv check [OPTION ..] --rules RULES [--rules RULES ..] FILE
       reports what Schematron rule files find, a line each, and counts it
       --rules RULES   a rule file; up to 16 may be named
       --phase PHASE   a phase that each rule file has, or #ALL or #DEFAULT
       --svrl          the report in SVRL
+      --json          the report as JSON
 
 change the syntax of an invoice
   einv convert --to ubl [--whole] [--codes LISTS] [--extension TERMS] FILE
@@ -59,7 +62,7 @@ status
   1  validate or check found something fatal, or totals a difference
   2  the words fit no command
   3  the document is refused
-  4  a rule file, code lists, extension terms, a phase or an expression is refused
+  4  rules, code lists, extension terms, a phase or an expression are refused
   5  the syntax can't carry the invoice, something would be lost with --whole,
      or there is no such attached document
   6  a file couldn't be opened or read

@@ -7,6 +7,7 @@ ghost use Rattle.invoice_cli.specs.declared.options.Optioned.TheVariants as comm
 use crate::options::{Given, NO_RULES, NONE_GIVEN, Optioned, RuleFiles, scan};
 use bind_meaning::Syntax;
 use invoice_jobs::{AnswerFormat, Sources};
+use job_protocol::ReportFormat;
 use trial_invoice::MOST_LINES;
 
 /// The greatest number of an attached document.
@@ -18,15 +19,15 @@ pub(crate) enum Command<'w> {
     Outline(&'w str),
     /// In a format, with the files beside the document, as far as they are named.
     Show(AnswerFormat, Sources<'w>, &'w str),
-    /// With such files.
-    Totals(Sources<'w>, &'w str),
+    /// Likewise.
+    Totals(AnswerFormat, Sources<'w>, &'w str),
     Convert(Syntax, Sources<'w>, &'w str),
     /// The same, where nothing of the document is lost.
     ConvertWhole(Syntax, Sources<'w>, &'w str),
-    /// Whether the report is to be SVRL, the phase, if one is named, and the document. The rule files are named beside.
-    Check(bool, Option<&'w str>, &'w str),
-    /// Whether the report is to be SVRL, the files beside the document, and the document.
-    Validate(bool, Sources<'w>, &'w str),
+    /// How the report is to be written, the phase, if one is named, and the document. The rule files are named beside.
+    Check(ReportFormat, Option<&'w str>, &'w str),
+    /// How the report is to be written, the files beside the document, and the document.
+    Validate(ReportFormat, Sources<'w>, &'w str),
     /// With the number of the attached document, from 1.
     Extract(u32, &'w str),
     /// An expression, and the document at which it is evaluated.
@@ -152,6 +153,18 @@ fn format_of(json: bool) -> AnswerFormat
     }
 }
 
+fn report_format(json: bool, svrl: bool) -> ReportFormat
+    ensures { result ≡ spec.report_format json svrl }
+{
+    if json {
+        ReportFormat::Json
+    } else if svrl {
+        ReportFormat::Svrl
+    } else {
+        ReportFormat::Plain
+    }
+}
+
 /// The comparison that the words behind `totals` ask for.
 fn totals_of(words: &[String]) -> Command<'_>
     requires { 2 + length words.now < 2 ^ 64 }
@@ -169,7 +182,7 @@ fn totals_with<'w>(given: &Given<'w>, number: u64, words: &'w [String]) -> Comma
     ensures { asked_by [] result ≡ spec.totals_of (given_options given.now) number (words_of words.now) }
 {
     match last_operand(number, words) {
-        Ok(file) => Command::Totals(given.sources, file),
+        Ok(file) => Command::Totals(format_of(given.json), given.sources, file),
         Err(number) => Command::BadWord(number),
     }
 }
@@ -231,7 +244,7 @@ fn check_with<'w>(given: &Given<'w>, number: u64, words: &'w [String]) -> Asked<
     }
     match last_operand(number, words) {
         Ok(file) => Asked {
-            command: Command::Check(given.svrl, given.phase, file),
+            command: Command::Check(report_format(given.json, given.svrl), given.phase, file),
             rules: given.rules,
         },
         Err(number) => without_rules(Command::BadWord(number)),
@@ -255,7 +268,7 @@ fn validate_with<'w>(given: &Given<'w>, number: u64, words: &'w [String]) -> Com
     ensures { asked_by [] result ≡ spec.validate_of (given_options given.now) number (words_of words.now) }
 {
     match last_operand(number, words) {
-        Ok(file) => Command::Validate(given.svrl, given.sources, file),
+        Ok(file) => Command::Validate(report_format(given.json, given.svrl), given.sources, file),
         Err(number) => Command::BadWord(number),
     }
 }

@@ -1,5 +1,4 @@
 mod Rows
-mod MadeLemmas
 mod NameLemmas
 mod CallLemmas
 mod RunLemmas

@@ -1,28 +1,11 @@
 -- Names of members are ASCII.
-use Rattle.std.proofs.Common.{◌≡◌, ℕ, ◌-◌, ◌<◌, ◌^◌, true, false, Bool, List, [], ◌∷◌, ◌++◌, refl, codes, decimal, arith, IsAscii}
-use Rattle.std.specs.Prelude.{chars, nat_lt, nat_eq, if◌then◌else◌}
+use Rattle.std.proofs.Common.{◌≡◌, true, refl}
+use Rattle.std.specs.Prelude.{chars, nat_lt}
 use Rattle.std.specs.List.{list_all}
-use Rattle.std.proofs.lemmas.Bool.{ltb-true}
-use Rattle.std.proofs.lemmas.Fmt.{IsAscii-decimal}
-use Rattle.std.proofs.lemmas.Str.{chars-IsAscii, IsAscii-append}
-use Rattle.std.proofs.lemmas.Str.Ascii.{IsAscii-nil, IsAscii-cons}
-use Rattle.term_table.proofs.GroupLemmas.{both}
 use Rattle.term_table.specs.declared.groups.Group.{Group}
 use Rattle.term_table.specs.declared.groups.Group.TheVariants as groups
-use Rattle.term_table.specs.declared.terms.Term.{Term}
-use Rattle.term_table.specs.SemanticModel.{is_extension}
-use Rattle.inv_listing.specs.Listing.{part_text, term_text}
+use Rattle.json_text.proofs.WordLemmas.{chars-word}
 use Rattle.invoice_json.specs.InvoiceJson.{array_name}
-
-ascii : (bytes : List ℕ) → list_all (λ b. nat_lt b 128) bytes ≡ true → IsAscii bytes
-ascii [] e = IsAscii-nil
-ascii (b ∷ bytes) e =
-    let parts = both (nat_lt b 128) (list_all (λ b. nat_lt b 128) bytes) e in
-    IsAscii-cons b bytes (ltb-true b 128 parts.0) (ascii bytes parts.1)
-
--- a literal's characters
-pub chars-word : (bytes : List ℕ) → list_all (λ b. nat_lt b 128) bytes ≡ true → chars bytes ≡ bytes
-chars-word bytes e = chars-IsAscii bytes (ascii bytes e)
 
 array_name-ascii : (group : Group) → list_all (λ b. nat_lt b 128) (array_name group) ≡ true
 array_name-ascii groups.Root = refl
@@ -30,21 +13,3 @@ array_name-ascii _ = refl
 
 pub chars-array_name : (group : Group) → chars (array_name group) ≡ array_name group
 chars-array_name group = chars-word (array_name group) (array_name-ascii group)
-
-part_text-ascii : (part : ℕ) → part < 2 ^ 64 → IsAscii (part_text part)
-part_text-ascii part h = by (nat_eq part 0)
-  where
-    by : (q : Bool) → IsAscii (if q then [] else 0x2D ∷ decimal part)
-    by true = IsAscii-nil
-    by false = IsAscii-append (0x2D ∷ []) (decimal part) (ascii (0x2D ∷ []) refl) (IsAscii-decimal part h)
-
-pub term_text-ascii : (term : Term) → term.number < 2 ^ 16 → term.part < 2 ^ 8 → IsAscii (term_text term)
-term_text-ascii term h k = by (is_extension term)
-  where
-    by : (q : Bool) → IsAscii
-        (if q then codes "EXT-" ++ decimal (term.number - 1000) else codes "BT-" ++ (decimal term.number ++ part_text term.part))
-    by true = IsAscii-append (codes "EXT-") (decimal (term.number - 1000)) (ascii (codes "EXT-") refl)
-        (IsAscii-decimal (term.number - 1000) (omega arith))
-    by false = IsAscii-append (codes "BT-") (decimal term.number ++ part_text term.part) (ascii (codes "BT-") refl)
-        (IsAscii-append (decimal term.number) (part_text term.part) (IsAscii-decimal term.number (omega arith))
-        (part_text-ascii term.part (omega arith)))

@@ -1,22 +1,14 @@
 -- The calls that write the members of an invoice from its first entry to its last, by what was open before each.
-use Rattle.std.specs.Prelude.{◌≡◌, ℕ, ◌+◌, List, [], ◌∷◌, ◌++◌, Option, Some, None, encode_utf8_all, if◌then◌else◌}
-use Rattle.inv_base.specs.Outside.{SinkView}
-use Rattle.inv_base.specs.Printing.{Prints}
+use Rattle.std.specs.Prelude.{ℕ, ◌+◌, List, [], ◌∷◌, ◌++◌, Option, Some, None, if◌then◌else◌}
 use Rattle.term_table.specs.declared.contexts.Slot.{Slot}
 use Rattle.term_table.specs.declared.contexts.Context.{Context}
 use Rattle.term_table.specs.Contexts.{root_context}
 use Rattle.inv_terms.specs.declared.entries.Entry.{Entry}
 use Rattle.inv_terms.specs.Values.{spelled}
 use Rattle.inv_listing.specs.Listing.{term_text}
-use Rattle.json_text.specs.declared.pen.JsonPen.{JsonPen}
 use Rattle.json_text.specs.declared.state.Container.TheVariants.{Object, Array}
-use Rattle.json_text.specs.Calls.{Call, call_name, call_text, call_begin, call_end, calls_of, appended_by_all, behind_all}
+use Rattle.json_text.specs.Calls.{Call, call_name, call_text, call_begin, call_end, calls_of}
 use Rattle.invoice_json.specs.InvoiceJson.{array_name, in_one_array, in_one_object, passed_member}
-
--- The pen made the calls.
-pub record Made (calls : List Call) (before after : JsonPen) (from to : SinkView) : Type 0 where
-  pub prints : Prints (encode_utf8_all (appended_by_all before.state calls)) before.printer.failed after.printer.failed from to
-  pub state : after.state ≡ behind_all before.state calls
 
 -- the calls for a term and its value
 abbrev pub entry_calls : Entry → List Call

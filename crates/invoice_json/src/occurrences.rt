@@ -1,7 +1,8 @@
 ghost use Rattle.std.specs.Prelude.{◌≡◌, ◌+◌, ◌≤◌, ◌<◌};
 ghost use Rattle.json_text.specs.declared.state.TheConstants.{DEEPEST};
 ghost use Rattle.invoice_json.specs.InvoiceJson.{in_one_array, in_one_object};
-ghost use Rattle.invoice_json.specs.Streaming.{Made, leave_calls, enter_calls, slot_calls, turn_calls, inner_of, slot_depth, kept_depth, context_depth};
+ghost use Rattle.json_text.specs.Made.{Made};
+ghost use Rattle.invoice_json.specs.Streaming.{leave_calls, enter_calls, slot_calls, turn_calls, inner_of, slot_depth, kept_depth, context_depth};
 
 use crate::names::array_name;
 use inv_base::Sink;

@@ -4,7 +4,8 @@ ghost use Rattle.json_text.specs.Layout.{document};
 ghost use Rattle.json_text.specs.Calls.{call_name, calls_of};
 ghost use Rattle.inv_listing.specs.Listing.{term_text};
 ghost use Rattle.invoice_json.specs.InvoiceJson.{invoice_json, passed_member};
-ghost use Rattle.invoice_json.specs.Streaming.{Made, entry_calls};
+ghost use Rattle.json_text.specs.Made.{Made};
+ghost use Rattle.invoice_json.specs.Streaming.{entry_calls};
 
 use crate::occurrences::turn;
 use inv_base::{Sink, ascii_text};

@@ -2,3 +2,5 @@ pub mod Json
 pub mod Layout
 pub mod Escapes
 pub mod Calls
+pub mod Making
+pub mod Made

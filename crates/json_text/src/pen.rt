@@ -1,7 +1,10 @@
-ghost use Rattle.std.specs.Prelude.{◌≡◌, ◌+◌, ◌-◌, ◌<◌, ◌≤◌, [], ◌∷◌, ◌++◌, false, chars, encode_utf8_all};
+ghost use Rattle.std.specs.Prelude.{◌≡◌, ◌+◌, ◌-◌, ◌<◌, ◌≤◌, [], ◌∷◌, ◌++◌, false, Some, None, chars, encode_utf8_all};
+ghost use Rattle.std.specs.Str.{IsAscii};
 ghost use Rattle.inv_base.specs.Printing.{Prints};
 ghost use Rattle.json_text.specs.Layout.{indent, new_line, lead};
 ghost use Rattle.json_text.specs.Calls.{fresh, end_lead, call_name, call_text, call_number, call_begin, call_end, call_finish, appended_by, state_behind};
+ghost use Rattle.json_text.specs.Making.{text_member, number_member};
+ghost use Rattle.json_text.specs.Made.{Wrote, Began};
 
 use crate::state::{Container, DEEPEST, JsonPlace, JsonState};
 use crate::strings::put_string;
@@ -105,6 +108,42 @@ impl JsonPen {
             depth: self.state.depth - 1,
             place: JsonPlace::Behind,
         };
+    }
+
+    /// Writes a member that is a text.
+    pub fn text_member<K: Sink>(&mut self, out: &mut K, name: &str, value: &str)
+        requires { IsAscii name.now }
+        ensures { Wrote (text_member name.now (chars value.now)) self.old self.new (K.view out.old) (K.view out.new) }
+    {
+        self.name(out, name);
+        self.text(out, value);
+    }
+
+    /// Writes a member that is a number.
+    pub fn number_member<K: Sink>(&mut self, out: &mut K, name: &str, value: u64)
+        requires { IsAscii name.now }
+        ensures { Wrote (number_member name.now value) self.old self.new (K.view out.old) (K.view out.new) }
+    {
+        self.name(out, name);
+        self.number(out, value);
+    }
+
+    /// Begins an array or object that is a member.
+    pub fn begin_member<K: Sink>(&mut self, out: &mut K, name: &str, kind: Container)
+        requires name { IsAscii name.now }
+        requires room { self.old.state.depth < DEEPEST }
+        ensures { Began (Some name.now) kind self.old self.new (K.view out.old) (K.view out.new) }
+    {
+        self.name(out, name);
+        self.begin(out, kind);
+    }
+
+    /// Begins an array or object that is no member.
+    pub fn begin_item<K: Sink>(&mut self, out: &mut K, kind: Container)
+        requires { self.old.state.depth < DEEPEST }
+        ensures { Began None kind self.old self.new (K.view out.old) (K.view out.new) }
+    {
+        self.begin(out, kind);
     }
 
     /// Ends the text behind its value. Answers whether printing has failed.

@@ -8,7 +8,8 @@ mod svrl;
 mod tally;
 
 pub use plain::{
-    print_counts, print_id, print_message, print_number, print_outcome, print_text, write_plain,
+    failed_word, print_counts, print_id, print_message, print_number, print_outcome, print_text,
+    write_plain,
 };
 pub use svrl::write_svrl;
 pub use tally::Tally;

@@ -108,7 +108,8 @@ pub fn print_outcome<K: Sink>(
     }
 }
 
-fn failed_word(level: Level) -> &'static str
+/// The word with which the line of a failed assertion begins.
+pub fn failed_word(level: Level) -> &'static str
     ensures { result.now ≡ spec.failed_word level }
 {
     match level {

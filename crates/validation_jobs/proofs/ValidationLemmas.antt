@@ -90,16 +90,16 @@ pub same_faults : (terms : List ExtTerm) (tables : Tables) → AreTablesFor term
     → faults_by (rows_for terms) nodes lists ≡ faults_by (rows_in tables) nodes lists
 same_faults terms tables are nodes lists = sym (by_same_rows (rows_in tables) (rows_for terms) are nodes lists (document_type_of nodes))
 
-module _ (svrl : Bool) (file : List ℕ) (reading_profile : ReadingProfile) (content : List ℕ) (doc : Document) (shelf : ShelfView) where
+module _ (text : Report → List ℕ) (file : List ℕ) (reading_profile : ReadingProfile) (content : List ℕ) (doc : Document) (shelf : ShelfView) where
   -- what follows by what is wrong
   abbrev follows : Result ReadingReport BindFault → Protocol
-  follows found = by_faults file doc (judged_next svrl content doc) found
+  follows found = by_faults file doc (judged_next text content doc) found
 
   pub document_faulted : (reading_report : ReadingReport) (out out' err err' : SinkView) (status : Status)
       → faults_by (rows_for reading_profile.terms) (tree_nodes doc) reading_profile.lists ≡ Ok reading_report
-      → Runs (judged_next svrl content doc reading_report) (record { shelf = shelf; out = out; err = err }) (record { shelf = shelf; out = out'; err = err' })
+      → Runs (judged_next text content doc reading_report) (record { shelf = shelf; out = out; err = err }) (record { shelf = shelf; out = out'; err = err' })
       status
-      → Runs (document_next svrl file reading_profile content doc) (record { shelf = shelf; out = out; err = err })
+      → Runs (document_next text file reading_profile content doc) (record { shelf = shelf; out = out; err = err })
       (record { shelf = shelf; out = out'; err = err' }) status
   document_faulted reading_report out out' err err' status is further =
       subst (λ protocol. Runs protocol (record { shelf = shelf; out = out; err = err }) (record { shelf = shelf; out = out'; err = err' }) status)
@@ -108,10 +108,10 @@ module _ (svrl : Bool) (file : List ℕ) (reading_profile : ReadingProfile) (con
   pub document_refused : (fault : BindFault) (out err err' : SinkView) (status : Status)
       → (fault.kind ≢ kinds.Memory → faults_by (rows_for reading_profile.terms) (tree_nodes doc) reading_profile.lists ≡ Err fault) →
       IsInvoiceRefusal doc file fault status err err'
-      → Runs (document_next svrl file reading_profile content doc) (record { shelf = shelf; out = out; err = err })
+      → Runs (document_next text file reading_profile content doc) (record { shelf = shelf; out = out; err = err })
       (record { shelf = shelf; out = out; err = err' }) status
   document_refused fault out err err' status fails (inl memory) =
-      rw (memory.1, memory.2) (memory_here (document_next svrl file reading_profile content doc) shelf out err)
+      rw (memory.1, memory.2) (memory_here (document_next text file reading_profile content doc) shelf out err)
   document_refused fault out err err' status fails (inr told) =
       rw told.1
       (subst (λ protocol. Runs protocol (record { shelf = shelf; out = out; err = err }) (record { shelf = shelf; out = out; err = err' })
@@ -119,45 +119,46 @@ module _ (svrl : Bool) (file : List ℕ) (reading_profile : ReadingProfile) (con
       (sym (ap follows (fails told.0)))
       (refused_here statuses.DocumentRefused (invoice_line file doc fault) shelf out err err' tt told.2))
 
-module _ (svrl : Bool) (content : List ℕ) (doc : Document) (shelf : ShelfView) where
+module _ (text : Report → List ℕ) (content : List ℕ) (doc : Document) (shelf : ShelfView) where
   -- The rules can be had, or can't.
   pub document_judged : (reading_report : ReadingReport) (ready : Ready) (out out' err err' : SinkView) (status : Status)
       → built_in_rules reading_report.document_type ≡ Some ready
-      → Runs (ends (reported svrl (validated content doc reading_report ready))) (record { shelf = shelf; out = out; err = err })
+      → Runs (ends (reported text (validated content doc reading_report ready))) (record { shelf = shelf; out = out; err = err })
       (record { shelf = shelf; out = out'; err = err' }) status
-      → Runs (judged_next svrl content doc reading_report) (record { shelf = shelf; out = out; err = err }) (record { shelf = shelf; out = out'; err = err' })
+      → Runs (judged_next text content doc reading_report) (record { shelf = shelf; out = out; err = err }) (record { shelf = shelf; out = out'; err = err' })
       status
   document_judged reading_report ready out out' err err' status is further =
       subst (λ protocol. Runs protocol (record { shelf = shelf; out = out; err = err }) (record { shelf = shelf; out = out'; err = err' }) status)
-      (sym (ap (by_rules (λ r. ends (reported svrl (validated content doc reading_report r)))) is)) further
+      (sym (ap (by_rules (λ r. ends (reported text (validated content doc reading_report r)))) is)) further
 
   pub document_unjudged : (reading_report : ReadingReport) (out err err' : SinkView) → built_in_rules reading_report.document_type ≡ None
       → TakesOrFails not_built_in.err err err'
-      → Runs (judged_next svrl content doc reading_report) (record { shelf = shelf; out = out; err = err })
+      → Runs (judged_next text content doc reading_report) (record { shelf = shelf; out = out; err = err })
       (record { shelf = shelf; out = out; err = err' }) statuses.RulesRefused
   document_unjudged reading_report out err err' is takes =
       subst (λ protocol. Runs protocol (record { shelf = shelf; out = out; err = err }) (record { shelf = shelf; out = out; err = err' }) statuses.RulesRefused)
-      (sym (ap (by_rules (λ r. ends (reported svrl (validated content doc reading_report r)))) is))
+      (sym (ap (by_rules (λ r. ends (reported text (validated content doc reading_report r)))) is))
       (refused_here statuses.RulesRefused not_built_in.err shelf out err err' tt takes)
 
 -- ---- a report
 
 -- It was written, or a front of it where a write failed.
-pub report_written : (svrl : Bool) (report : Report) (status : Status) (shelf : ShelfView) (out out' err : SinkView)
-    → ((status ≡ status_by report.findings) × WritesAll (text_in svrl report) out out') ⊎
-    ((status ≡ statuses.WriteFault) × WritesFront (text_in svrl report) out out')
-    → Runs (ends (told_by svrl report)) (record { shelf = shelf; out = out; err = err }) (record { shelf = shelf; out = out'; err = err }) status
-report_written svrl report status shelf out out' err written =
-    written_here (status_by report.findings) status (text_in svrl report) shelf out out' err (accepted report.findings) written
+pub report_written : (text : Report → List ℕ) (report : Report) (status : Status) (shelf : ShelfView) (out out' err : SinkView)
+    → ((status ≡ status_by report.findings) × WritesAll (text report) out out') ⊎
+    ((status ≡ statuses.WriteFault) × WritesFront (text report) out out')
+    → Runs (ends (told_by text report)) (record { shelf = shelf; out = out; err = err }) (record { shelf = shelf; out = out'; err = err }) status
+report_written text report status shelf out out' err written =
+    written_here (status_by report.findings) status (text report) shelf out out' err (accepted report.findings) written
   where
     accepted : (b : Bool) → IsAccepted (status_by b)
     accepted true = tt
     accepted false = tt
 
 -- the same of the report that is defined
-pub report_is_written : (svrl : Bool) (v : Validated) (report : Report) (status : Status) (shelf : ShelfView) (out out' err : SinkView) → report ≡ report_of v
-    → Runs (ends (told_by svrl report)) (record { shelf = shelf; out = out; err = err }) (record { shelf = shelf; out = out'; err = err }) status
-    → Runs (ends (reported svrl v)) (record { shelf = shelf; out = out; err = err }) (record { shelf = shelf; out = out'; err = err }) status
-report_is_written svrl v report status shelf out out' err is further =
-    subst (λ (r : Report). Runs (ends (told_by svrl r)) (record { shelf = shelf; out = out; err = err })
+pub report_is_written : (text : Report → List ℕ) (v : Validated) (report : Report) (status : Status) (shelf : ShelfView) (out out' err : SinkView)
+    → report ≡ report_of v
+    → Runs (ends (told_by text report)) (record { shelf = shelf; out = out; err = err }) (record { shelf = shelf; out = out'; err = err }) status
+    → Runs (ends (reported text v)) (record { shelf = shelf; out = out; err = err }) (record { shelf = shelf; out = out'; err = err }) status
+report_is_written text v report status shelf out out' err is further =
+    subst (λ (r : Report). Runs (ends (told_by text r)) (record { shelf = shelf; out = out; err = err })
     (record { shelf = shelf; out = out'; err = err }) status) is further

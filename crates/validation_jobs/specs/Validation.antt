@@ -1,6 +1,6 @@
 -- What is answered to the job that validates an invoice: all that is wrong with it as an invoice of its table, the elements that the table passes over,
 -- and what the built-in rules of EN 16931 find (CEN/TS 16931-3-2 and 16931-3-3; ISO/IEC 19757-3).
-use Rattle.std.specs.Prelude.{◌≡◌, ℕ, Bool, true, false, List, [], codes, Option, Some, None, Result, Ok, Err}
+use Rattle.std.specs.Prelude.{◌≡◌, ℕ, Bool, true, false, List, [], chars, codes, encode_utf8_all, Option, Some, None, Result, Ok, Err}
 use Rattle.std.proofs.Common.{◌⊎◌}
 use Rattle.inv_base.specs.Outside.{SinkView}
 use Rattle.code_lists.specs.declared.fault.ListFault.{ListFault}
@@ -17,6 +17,11 @@ use Rattle.bind_run.specs.Reading.{ReadingReport, faults_by}
 use Rattle.rule_texts.specs.Texts.{ubl_text, cii_text, code_lists_text}
 use Rattle.held_rules.specs.Texts.{Ready, ready_in, found_by}
 use Rattle.validation_report.specs.Validating.{Validated, Report, report_of}
+use Rattle.json_text.specs.Layout as layout
+use Rattle.validation_json.specs.ValidationJson.{validation_json}
+use Rattle.job_protocol.specs.declared.formats.ReportFormat.{ReportFormat}
+use Rattle.job_protocol.specs.declared.formats.ReportFormat.TheVariants as formats
+use Rattle.validation_jobs.specs.declared.validating.Asked.{Asked}
 use Rattle.job_protocol.specs.declared.status.Status.{Status}
 use Rattle.job_protocol.specs.declared.status.Status.TheVariants as statuses
 use Rattle.job_protocol.specs.Protocol.{Answer, Protocol, ends, refusal, by_result, lists_protocol, told_protocol}
@@ -77,16 +82,18 @@ abbrev pub status_by : Bool → Status
 status_by true = statuses.Findings
 status_by false = statuses.Done
 
--- the report in SVRL, or the plain one
-abbrev pub text_in : Bool → Report → List ℕ
-text_in true report = report.svrl
-text_in false report = report.plain
+-- the report in a format, by the name of the document's file
+abbrev pub text_in : ReportFormat → List ℕ → Report → List ℕ
+text_in formats.Plain file report = report.plain
+text_in formats.Svrl file report = report.svrl
+text_in formats.Json file report = encode_utf8_all (layout.document (validation_json (chars file) report.contents))
 
-abbrev pub told_by : Bool → Report → Answer
-told_by svrl report = record { status = status_by report.findings; out = text_in svrl report; err = [] }
+-- what is answered by the text of a report
+abbrev pub told_by : (Report → List ℕ) → Report → Answer
+told_by text report = record { status = status_by report.findings; out = text report; err = [] }
 
-abbrev pub reported : Bool → Validated → Answer
-reported svrl v = told_by svrl (report_of v)
+abbrev pub reported : (Report → List ℕ) → Validated → Answer
+reported text v = told_by text (report_of v)
 
 -- what follows by the built-in rules
 abbrev pub by_rules : (Ready → Protocol) → Option Ready → Protocol
@@ -98,23 +105,28 @@ abbrev pub by_faults : List ℕ → Document → (ReadingReport → Protocol) �
 by_faults file document next found = by_result (λ fault. ends (refusal statuses.DocumentRefused (invoice_line file document fault))) next found
 
 -- what follows by what is wrong: the rules of the table, and the report
-abbrev pub judged_next : Bool → List ℕ → Document → ReadingReport → Protocol
-judged_next svrl content document reading_report =
-    by_rules (λ ready. ends (reported svrl (validated content document reading_report ready))) (built_in_rules reading_report.document_type)
+abbrev pub judged_next : (Report → List ℕ) → List ℕ → Document → ReadingReport → Protocol
+judged_next text content document reading_report =
+    by_rules (λ ready. ends (reported text (validated content document reading_report ready))) (built_in_rules reading_report.document_type)
 
 -- what follows by a document and the bytes of its file
-abbrev pub document_next : Bool → List ℕ → ReadingProfile → List ℕ → Document → Protocol
-document_next svrl file reading_profile content document =
-    by_faults file document (judged_next svrl content document) (faults_by (rows_for reading_profile.terms) (tree_nodes document) reading_profile.lists)
+abbrev pub document_next : (Report → List ℕ) → List ℕ → ReadingProfile → List ℕ → Document → Protocol
+document_next text file reading_profile content document =
+    by_faults file document (judged_next text content document) (faults_by (rows_for reading_profile.terms) (tree_nodes document) reading_profile.lists)
 
-abbrev pub found_next : Bool → List ℕ → ReadingProfile → List ℕ → profile.Document → Protocol
-found_next svrl file reading_profile content found = document_next svrl file reading_profile content (document_read found)
+abbrev pub found_next : (Report → List ℕ) → List ℕ → ReadingProfile → List ℕ → profile.Document → Protocol
+found_next text file reading_profile content found = document_next text file reading_profile content (document_read found)
 
 -- the files beside the document before it, as for the other jobs on an invoice
-abbrev pub validate_protocol : Bool → Sources → List ℕ → Protocol
-validate_protocol svrl sources file = given_protocol sources (λ reading_profile. told_protocol file (found_next svrl file reading_profile))
+abbrev pub validate_protocol : ReportFormat → Sources → List ℕ → Protocol
+validate_protocol format sources file =
+    given_protocol sources (λ reading_profile. told_protocol file (found_next (text_in format file) file reading_profile))
 
 -- ---- what the code has
+
+-- the text of a report as it is asked for
+abbrev pub text_asked : Asked → Report → List ℕ
+text_asked asked report = text_in asked.format asked.file.now report
 
 -- The built-in lists are these, and nothing was told.
 pub record IsListed (lists : Lists) (before after : SinkView) : Type 0 where

@@ -9,7 +9,9 @@ ghost use Rattle.inv_base.specs.Writing.{Writes};
 ghost use Rattle.job_protocol.specs.Runs.{Runs};
 ghost use Rattle.invoice_jobs.specs.Sources.{profile_of, sources_of};
 ghost use Rattle.job_protocol.specs.Protocol.{ends, told_protocol};
-ghost use Rattle.validation_jobs.specs.Validation.{status_by, text_in, told_by, reported, validated, judged_next, document_next, found_next, validate_protocol};
+ghost use Rattle.job_protocol.specs.declared.formats.ReportFormat.TheVariants as ReportFormat;
+ghost use Rattle.validation_jobs.specs.Validation.{status_by, text_in, told_by, reported, text_asked, validated, judged_next, document_next, found_next};
+ghost use Rattle.validation_jobs.specs.Validation.{validate_protocol};
 
 use crate::built_in::{built_in_rules, load_given, tell_not_built_in};
 use bind_run::{ReadingReport, faults_of_document};
@@ -17,18 +19,19 @@ use bumpalo::Bump;
 use held_rules::Ready;
 use inv_base::{Shelf, Sink, Steps};
 use invoice_jobs::{ReadingProfile, Sources, refuse_invoice};
-use job_protocol::{Placed, Status, load_placed};
+use job_protocol::{Placed, ReportFormat, Status, load_placed};
 use std::alloc::Global;
 use std::marker::Brand;
 use std::sync::ledger::{Blank, Ledger};
+use validation_json::print_validation;
 use validation_report::{ReadingFindings, Validation};
 use xml_write::WriteFault;
 
 /// What is asked of an invoice.
 #[derive(Clone, Copy)]
 struct Asked<'w> {
-    /// Whether the report is to be SVRL.
-    svrl: bool,
+    /// How the report is to be written.
+    format: ReportFormat,
     /// The files beside the document.
     sources: Sources<'w>,
     /// The document.
@@ -38,19 +41,19 @@ struct Asked<'w> {
 /// Reports all that is wrong with an invoice. All refusals are settled, and all is found, before the first byte of the report.
 pub fn validate<'w, S: Shelf, O: Sink, E: Sink>(
     alloc: Global,
-    svrl: bool,
+    format: ReportFormat,
     sources: &Sources<'w>,
     file: &'w str,
     shelf: &mut S,
     out: &mut O,
     err: &mut E,
 ) -> Status
-    ensures { Runs (validate_protocol svrl (sources_of sources.now) file.now)
+    ensures { Runs (validate_protocol format (sources_of sources.now) file.now)
         (record { shelf = S.view shelf.old; out = O.view out.old; err = E.view err.old })
         (record { shelf = S.view shelf.new; out = O.view out.new; err = E.view err.new }) result }
 {
     let asked = Asked {
-        svrl,
+        format,
         sources: *sources,
         file,
     };
@@ -69,23 +72,14 @@ fn validate_by<L: Ledger, S: Shelf, O: Sink, E: Sink>(
     requires name { ledger.name ≡ L.name }
     requires parts { ledger.parts ≡ L.parts }
     requires some { 0 < ledger.parts }
-    ensures { Runs (validate_protocol asked.now.svrl (sources_of asked.now.sources) asked.now.file.now)
+    ensures { Runs (validate_protocol asked.now.format (sources_of asked.now.sources) asked.now.file.now)
         (record { shelf = S.view shelf.old; out = O.view out.old; err = E.view err.old })
         (record { shelf = S.view shelf.new; out = O.view out.new; err = E.view err.new }) result }
 {
     let mut steps = Steps::<L>::new(ledger);
     match load_given(alloc, &asked.sources, shelf, err) {
         Ok(reading_profile) => {
-            let status = validate_file(
-                alloc,
-                asked.svrl,
-                &reading_profile,
-                asked.file,
-                shelf,
-                out,
-                err,
-                &mut steps,
-            );
+            let status = validate_file(alloc, asked, &reading_profile, shelf, out, err, &mut steps);
             drop(reading_profile);
             status
         }
@@ -96,9 +90,8 @@ fn validate_by<L: Ledger, S: Shelf, O: Sink, E: Sink>(
 /// The same of a file, by what it is validated by.
 fn validate_file<L: Ledger, S: Shelf, O: Sink, E: Sink>(
     alloc: Global,
-    svrl: bool,
+    asked: &Asked<'_>,
     reading_profile: &ReadingProfile,
-    file: &str,
     shelf: &mut S,
     out: &mut O,
     err: &mut E,
@@ -106,23 +99,14 @@ fn validate_file<L: Ledger, S: Shelf, O: Sink, E: Sink>(
 ) -> Status
     requires tables { AreTablesFor reading_profile.now.extension reading_profile.now.tables }
     requires good { AreGood reading_profile.now.extension }
-    ensures { Runs (told_protocol file.now (found_next svrl file.now (profile_of reading_profile.now)))
+    ensures { Runs (told_protocol asked.now.file.now (found_next (text_asked asked.now) asked.now.file.now (profile_of reading_profile.now)))
         (record { shelf = S.view shelf.old; out = O.view out.old; err = E.view err.old })
         (record { shelf = S.view shelf.new; out = O.view out.new; err = E.view err.new }) result }
 {
     let bump = Bump::new(alloc);
-    match load_placed(alloc, &bump, shelf, file, err) {
+    match load_placed(alloc, &bump, shelf, asked.file, err) {
         Ok(placed) => {
-            let status = validate_document(
-                alloc,
-                svrl,
-                reading_profile,
-                file,
-                &placed,
-                out,
-                err,
-                steps,
-            );
+            let status = validate_document(alloc, asked, reading_profile, &placed, out, err, steps);
             drop(placed);
             status
         }
@@ -133,9 +117,8 @@ fn validate_file<L: Ledger, S: Shelf, O: Sink, E: Sink>(
 /// The same of a document that is loaded.
 fn validate_document<L: Ledger, O: Sink, E: Sink>(
     alloc: Global,
-    svrl: bool,
+    asked: &Asked<'_>,
     reading_profile: &ReadingProfile,
-    file: &str,
     placed: &Placed<'_>,
     out: &mut O,
     err: &mut E,
@@ -144,7 +127,7 @@ fn validate_document<L: Ledger, O: Sink, E: Sink>(
     requires tables { AreTablesFor reading_profile.now.extension reading_profile.now.tables }
     requires good { AreGood reading_profile.now.extension }
     ensures { (content : List ℕ) → AreLinesOf placed.now.lines content
-        → (shelf : ShelfView) → Runs (document_next svrl file.now (profile_of reading_profile.now) content placed.now.doc)
+        → (shelf : ShelfView) → Runs (document_next (text_asked asked.now) asked.now.file.now (profile_of reading_profile.now) content placed.now.doc)
         (record { shelf = shelf; out = O.view out.old; err = E.view err.old })
         (record { shelf = shelf; out = O.view out.new; err = E.view err.new }) result }
 {
@@ -155,18 +138,18 @@ fn validate_document<L: Ledger, O: Sink, E: Sink>(
         &reading_profile.lists,
     ) {
         Ok(reading_report) => {
-            let status = judge_document(alloc, svrl, placed, &reading_report, out, err, steps);
+            let status = judge_document(alloc, asked, placed, &reading_report, out, err, steps);
             drop(reading_report);
             status
         }
-        Err(fault) => refuse_invoice(&placed.doc, file, &fault, err),
+        Err(fault) => refuse_invoice(&placed.doc, asked.file, &fault, err),
     }
 }
 
 /// The same once it is known what is wrong with the document as an invoice.
 fn judge_document<L: Ledger, O: Sink, E: Sink>(
     alloc: Global,
-    svrl: bool,
+    asked: &Asked<'_>,
     placed: &Placed<'_>,
     reading_report: &ReadingReport,
     out: &mut O,
@@ -175,13 +158,13 @@ fn judge_document<L: Ledger, O: Sink, E: Sink>(
 ) -> Status
     requires within { IsWithin (length placed.now.doc.nodes) reading_report.now }
     ensures { (content : List ℕ) → AreLinesOf placed.now.lines content
-        → (shelf : ShelfView) → Runs (judged_next svrl content placed.now.doc (found_report reading_report.now))
+        → (shelf : ShelfView) → Runs (judged_next (text_asked asked.now) content placed.now.doc (found_report reading_report.now))
         (record { shelf = shelf; out = O.view out.old; err = E.view err.old })
         (record { shelf = shelf; out = O.view out.new; err = E.view err.new }) result }
 {
     match built_in_rules(alloc, reading_report.document_type) {
         Ok(Some(ready)) => {
-            let status = report(alloc, svrl, placed, reading_report, &ready, out, steps);
+            let status = report(alloc, asked, placed, reading_report, &ready, out, steps);
             drop(ready);
             status
         }
@@ -196,7 +179,7 @@ fn judge_document<L: Ledger, O: Sink, E: Sink>(
 /// What the rules find besides, and the report of all. All is found before the first byte is written.
 fn report<L: Ledger, O: Sink>(
     alloc: Global,
-    svrl: bool,
+    asked: &Asked<'_>,
     placed: &Placed<'_>,
     reading_report: &ReadingReport,
     ready: &Ready,
@@ -206,7 +189,7 @@ fn report<L: Ledger, O: Sink>(
     requires within { IsWithin (length placed.now.doc.nodes) reading_report.now }
     requires ready { IsReady ready.now }
     ensures { (content : List ℕ) → AreLinesOf placed.now.lines content
-        → (shelf : ShelfView) (err : SinkView) → Runs (ends (reported svrl (validated content placed.now.doc (found_report reading_report.now)
+        → (shelf : ShelfView) (err : SinkView) → Runs (ends (reported (text_asked asked.now) (validated content placed.now.doc (found_report reading_report.now)
         (seen_ready ready.now))))
         (record { shelf = shelf; out = O.view out.old; err = err })
         (record { shelf = shelf; out = O.view out.new; err = err }) result }
@@ -226,7 +209,7 @@ fn report<L: Ledger, O: Sink>(
     let made = Validation::new(alloc, doc, lines, &reading, found);
     match made {
         Ok(validation) => {
-            let status = write_report(svrl, &validation, out);
+            let status = write_report(asked, &validation, out);
             drop(validation);
             status
         }
@@ -235,30 +218,44 @@ fn report<L: Ledger, O: Sink>(
 }
 
 /// Writes a report; it takes no memory.
-fn write_report<O: Sink>(svrl: bool, validation: &Validation<'_>, out: &mut O) -> Status
-    ensures { (shelf : ShelfView) (err : SinkView) → Runs (ends (told_by svrl validation.now))
+fn write_report<O: Sink>(asked: &Asked<'_>, validation: &Validation<'_>, out: &mut O) -> Status
+    ensures { (shelf : ShelfView) (err : SinkView) → Runs (ends (told_by (text_asked asked.now) validation.now))
         (record { shelf = shelf; out = O.view out.old; err = err })
         (record { shelf = shelf; out = O.view out.new; err = err }) result }
 {
-    match write_text(svrl, validation, out) {
+    match write_text(asked, validation, out) {
         Ok(()) => status_of(validation),
         Err(_) => Status::WriteFault,
     }
 }
 
-/// Writes the report in SVRL, or the plain one.
+/// Writes the report as it is asked for.
 fn write_text<O: Sink>(
-    svrl: bool,
+    asked: &Asked<'_>,
     validation: &Validation<'_>,
     out: &mut O,
 ) -> Result<(), WriteFault>
-    ensures { Writes result (text_in svrl validation.now) (O.view out.old) (O.view out.new) }
+    ensures { Writes result (text_asked asked.now validation.now) (O.view out.old) (O.view out.new) }
 {
-    if svrl {
-        validation.write_svrl(out)
-    } else {
-        validation.write_plain(out)
+    match asked.format {
+        ReportFormat::Plain => validation.write_plain(out),
+        ReportFormat::Svrl => validation.write_svrl(out),
+        ReportFormat::Json => write_json(asked.file, validation, out),
     }
+}
+
+/// Writes the report as JSON.
+fn write_json<O: Sink>(
+    file: &str,
+    validation: &Validation<'_>,
+    out: &mut O,
+) -> Result<(), WriteFault>
+    ensures { Writes result (text_in ReportFormat.Json file.now validation.now) (O.view out.old) (O.view out.new) }
+{
+    if print_validation(file, validation, out) {
+        return Err(WriteFault);
+    }
+    Ok(())
 }
 
 /// The status of a report that was written.

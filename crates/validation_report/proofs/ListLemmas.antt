@@ -20,6 +20,10 @@ pub flat_map-map : {X Y Z : Type 0} (f : Y → List Z) (g : X → Y) (xs : List 
 flat_map-map f g [] = refl
 flat_map-map f g (x ∷ xs) = ap (λ t. f (g x) ++ t) (flat_map-map f g xs)
 
+pub flat_map-one : {X Y : Type 0} (f : X → Y) (xs : List X) → flat_map (λ x. f x ∷ []) xs ≡ map f xs
+flat_map-one f [] = refl
+flat_map-one f (x ∷ xs) = ap (λ t. f x ∷ t) (flat_map-one f xs)
+
 -- the texts of those that were gone over, and of one more
 pub text-more : {X : Type 0} (f : X → List ℕ) (xs : List X) (k : ℕ) (x : X) → k < length xs → x ≡ get_or xs k x
     → flat_map f (take k xs) ++ f x ≡ flat_map f (take (k + 1) xs)

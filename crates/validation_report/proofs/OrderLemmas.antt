@@ -143,13 +143,13 @@ module _ {X : Type 0} (node : X → ℕ) where
       same_from_parts ys (in_order node xs) (rises-from_sort ys sorted) (rises-in_order xs)
       (λ x. stable x ∙ sym (filter-in_order x xs))
 
--- ---- the order of texts
+-- ---- the order of what is told
 
--- a text with the node that it is told of
-abbrev pub tagged : {X : Type 0} → (X → ℕ) → (X → List ℕ) → X → ℕ × List ℕ
-tagged node text x = (node x, text x)
+-- what is told with the node that it is told of
+abbrev pub tagged : {X Y : Type 0} → (X → ℕ) → (X → Y) → X → ℕ × Y
+tagged node told x = (node x, told x)
 
-abbrev tag : ℕ × List ℕ → ℕ
+abbrev tag : {Y : Type 0} → ℕ × Y → ℕ
 tag pair = pair.0
 
 choice : {X Y : Type 0} (f : X → Y) (test : Bool) (xs ys : List X)
@@ -157,14 +157,14 @@ choice : {X Y : Type 0} (f : X → Y) (test : Bool) (xs ys : List X)
 choice f true xs ys = refl
 choice f false xs ys = refl
 
-module _ {X : Type 0} (node : X → ℕ) (text : X → List ℕ) where
-  map-put : (x : X) (ys : List X) → map (tagged node text) (put node x ys) ≡ put tag (tagged node text x) (map (tagged node text) ys)
+module _ {X Y : Type 0} (node : X → ℕ) (told : X → Y) where
+  map-put : (x : X) (ys : List X) → map (tagged node told) (put node x ys) ≡ put tag (tagged node told x) (map (tagged node told) ys)
   map-put x [] = refl
   map-put x (y ∷ ys) =
-      let f = tagged node text in
+      let f = tagged node told in
       choice f (nat_lt (node y) (node x)) (y ∷ put node x ys) (x ∷ (y ∷ ys))
       ∙ ap (λ l. elim (nat_lt (node y) (node x)) [ true ↦ f y ∷ l | false ↦ f x ∷ (f y ∷ map f ys) ]) (map-put x ys)
 
-  pub map-in_order : (xs : List X) → map (tagged node text) (in_order node xs) ≡ in_order tag (map (tagged node text) xs)
+  pub map-in_order : (xs : List X) → map (tagged node told) (in_order node xs) ≡ in_order tag (map (tagged node told) xs)
   map-in_order [] = refl
-  map-in_order (x ∷ xs) = map-put x (in_order node xs) ∙ ap (put tag (tagged node text x)) (map-in_order xs)
+  map-in_order (x ∷ xs) = map-put x (in_order node xs) ∙ ap (put tag (tagged node told x)) (map-in_order xs)

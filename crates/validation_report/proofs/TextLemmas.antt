@@ -16,10 +16,11 @@ use Rattle.validation_report.specs.declared.places.Spot.{Spot}
 use Rattle.validation_report.specs.declared.places.Spots.{Spots}
 use Rattle.validation_report.specs.Told.{fault_finding, fault_line, misplaced_line, reading_lines, Told, told_from, told_in, in_order}
 use Rattle.validation_report.specs.Validating.{Validated, finding_text, fault_text, passed_at, unread_at, misplaced_at, told_text, count_text, plain_validation}
-use Rattle.validation_report.specs.Validating.{svrl_validation, counts_against, has_findings, report_of}
+use Rattle.validation_report.specs.Validating.{svrl_validation, counts_against, has_findings, report_of, fault_placed, told_placed, contents_of}
 use Rattle.validation_report.specs.Held.{place_at, spot_at, fault_spots, spots_from, spots_of, ordered, located_at, unread_of, optional_text, spot_text, fault_word}
 use Rattle.validation_report.specs.Held.{outcome_word, located_text, held_unread, held_plain, reading_in, rules_in, held, ArePlaced}
-use Rattle.validation_report.proofs.ListLemmas.{stands, flat_map-map}
+use Rattle.validation_report.specs.Held.{placed_if, placed_in, held_contents}
+use Rattle.validation_report.proofs.ListLemmas.{stands, flat_map-map, flat_map-one}
 use Rattle.validation_report.proofs.OrderLemmas.{tagged, map-in_order}
 use lib.Utf8.{encode}
 
@@ -38,19 +39,23 @@ kind-bytes kinds.Memory = refl
 module _ (v : Validated) where
   -- ---- faults
 
+  -- what is told of each fault, by what is told at its spot
+  faults-are : {Y : Type 0} (of_spot : Spot → List Y) (of_fault : BindFault → List Y) (whole rest : List Line)
+      → ((number : ℕ) (fault : BindFault) → slice_get whole number ≡ Some (fault_line v.document fault)
+      → of_spot (spot_at v.document v.content number fault.node) ≡ of_fault fault)
+      → (number : ℕ) (faults : List BindFault) → drop number whole ≡ map (fault_line v.document) faults ++ rest
+      → flat_map of_spot (fault_spots v.document v.content number faults) ≡ flat_map of_fault faults
+  faults-are of_spot of_fault whole rest one number [] e = refl
+  faults-are of_spot of_fault whole rest one number (fault ∷ faults) e =
+      let at = stands whole number (fault_line v.document fault) (map (fault_line v.document) faults ++ rest) e in
+      ap (λ t. t ++ flat_map of_spot (fault_spots v.document v.content (suc number) faults)) (one number fault at.here)
+      ∙ ap (λ t. of_fault fault ++ t) (faults-are of_spot of_fault whole rest one (suc number) faults at.behind)
+
   one-fault : (whole : List Line) (number : ℕ) (fault : BindFault) → slice_get whole number ≡ Some (fault_line v.document fault)
       → spot_text fault_word whole (spot_at v.document v.content number fault.node) ≡ fault_text v fault
   one-fault whole number fault e =
       ap (optional_text fault_word (place_at v.document v.content fault.node)) e
       ∙ ap (λ word. finding_text (codes "fault " ++ word) (fault_finding v.document fault) (place_at v.document v.content fault.node)) (kind-bytes fault.kind)
-
-  faults-are : (whole rest : List Line) (number : ℕ) (faults : List BindFault) → drop number whole ≡ map (fault_line v.document) faults ++ rest
-      → flat_map (spot_text fault_word whole) (fault_spots v.document v.content number faults) ≡ flat_map (fault_text v) faults
-  faults-are whole rest number [] e = refl
-  faults-are whole rest number (fault ∷ faults) e =
-      let at = stands whole number (fault_line v.document fault) (map (fault_line v.document) faults ++ rest) e in
-      ap (λ t. t ++ flat_map (spot_text fault_word whole) (fault_spots v.document v.content (suc number) faults)) (one-fault whole number fault at.here)
-      ∙ ap (λ t. fault_text v fault ++ t) (faults-are whole rest (suc number) faults at.behind)
 
   many-faults : (number : ℕ) (faults : List BindFault) → length (fault_spots v.document v.content number faults) ≡ length faults
   many-faults number [] = refl
@@ -77,39 +82,38 @@ module _ (v : Validated) where
   abbrev told_node : Told → ℕ
   told_node told = told.node
 
-  abbrev tag_spot : List Line → Spot → ℕ × List ℕ
-  tag_spot whole = tagged spot_node (spot_text outcome_word whole)
+  -- what is told of each finding, by what is told at its spot
+  module _ {Y : Type 0} (of_spot : Spot → List Y) (of_told : Told → List Y) (whole : List Line)
+      (one : (number node : ℕ) (finding : Finding) → slice_get whole number ≡ Some (line.Found finding)
+      → of_spot (spot_at v.document v.content number node) ≡ of_told (record { node = node; finding = finding })) where
+    abbrev tag_spot : Spot → ℕ × List Y
+    tag_spot = tagged spot_node of_spot
 
-  abbrev tag_told : Told → ℕ × List ℕ
-  tag_told = tagged told_node (told_text v)
+    abbrev tag_told : Told → ℕ × List Y
+    tag_told = tagged told_node of_told
 
-  one-told : (whole : List Line) (number node : ℕ) (finding : Finding) → slice_get whole number ≡ Some (line.Found finding)
-      → tag_spot whole (spot_at v.document v.content number node) ≡ tag_told (record { node = node; finding = finding })
-  one-told whole number node finding e = ap (λ l. (node, optional_text outcome_word (place_at v.document v.content node) l)) e
+    told-are : (number node : ℕ) (lines : List Line) → drop number whole ≡ lines
+        → map tag_spot (spots_from v.document v.content number node lines) ≡ map tag_told (told_from node lines)
+    told-are number node [] e = refl
+    told-are number node (line.Pattern id ∷ lines) e =
+        told-are (suc number) node lines (stands whole number (line.Pattern id) lines e).behind
+    told-are number node (line.Fired judged rule context ∷ lines) e =
+        told-are (suc number) judged lines (stands whole number (line.Fired judged rule context) lines e).behind
+    told-are number node (line.Found finding ∷ lines) e =
+        let at = stands whole number (line.Found finding) lines e in
+        ap (λ t. t ∷ map tag_spot (spots_from v.document v.content (suc number) node lines)) (ap (λ t. (node, t)) (one number node finding at.here))
+        ∙ ap (λ t. tag_told (record { node = node; finding = finding }) ∷ t) (told-are (suc number) node lines at.behind)
 
-  told-are : (whole : List Line) (number node : ℕ) (lines : List Line) → drop number whole ≡ lines
-      → map (tag_spot whole) (spots_from v.document v.content number node lines) ≡ map tag_told (told_from node lines)
-  told-are whole number node [] e = refl
-  told-are whole number node (line.Pattern id ∷ lines) e =
-      told-are whole (suc number) node lines (stands whole number (line.Pattern id) lines e).behind
-  told-are whole number node (line.Fired judged rule context ∷ lines) e =
-      told-are whole (suc number) judged lines (stands whole number (line.Fired judged rule context) lines e).behind
-  told-are whole number node (line.Found finding ∷ lines) e =
-      let at = stands whole number (line.Found finding) lines e in
-      ap (λ t. t ∷ map (tag_spot whole) (spots_from v.document v.content (suc number) node lines)) (one-told whole number node finding at.here)
-      ∙ ap (λ t. tag_told (record { node = node; finding = finding }) ∷ t) (told-are whole (suc number) node lines at.behind)
+    abbrev second : ℕ × List Y → List Y
+    second pair = pair.1
 
-  abbrev second : ℕ × List ℕ → List ℕ
-  second pair = pair.1
-
-  ordered-are : (lines : List Line)
-      → flat_map (spot_text outcome_word lines) (ordered (spots_of v.document v.content lines)) ≡ flat_map (told_text v) (told_in lines)
-  ordered-are lines =
-      sym (flat_map-map second (tag_spot lines) (ordered (spots_of v.document v.content lines)))
-      ∙ (ap (flat_map second) (map-in_order spot_node (spot_text outcome_word lines) (spots_of v.document v.content lines)
-      ∙ (ap (in_order (λ (pair : ℕ × List ℕ). pair.0)) (told-are lines 0 0 lines refl)
-      ∙ sym (map-in_order told_node (told_text v) (told_from 0 lines))))
-      ∙ flat_map-map second tag_told (told_in lines))
+    ordered-are : flat_map of_spot (ordered (spots_of v.document v.content whole)) ≡ flat_map of_told (told_in whole)
+    ordered-are =
+        sym (flat_map-map second tag_spot (ordered (spots_of v.document v.content whole)))
+        ∙ (ap (flat_map second) (map-in_order spot_node of_spot (spots_of v.document v.content whole)
+        ∙ (ap (in_order (λ (pair : ℕ × List Y). pair.0)) (told-are 0 0 whole refl)
+        ∙ sym (map-in_order told_node of_told (told_from 0 whole))))
+        ∙ flat_map-map second tag_told (told_in whole))
 
   -- ---- the report
 
@@ -117,7 +121,8 @@ module _ (v : Validated) where
     faults-placed : flat_map (spot_text fault_word (reading_lines v.document v.faults v.misplaced)) spots.faults.items ≡ flat_map (fault_text v) v.faults
     faults-placed =
         let whole = reading_lines v.document v.faults v.misplaced in
-        ap (flat_map (spot_text fault_word whole)) p.faults ∙ faults-are whole (map (misplaced_line v.document) v.misplaced) 2 v.faults refl
+        ap (flat_map (spot_text fault_word whole)) p.faults
+        ∙ faults-are (spot_text fault_word whole) (fault_text v) whole (map (misplaced_line v.document) v.misplaced) (one-fault whole) 2 v.faults refl
 
     passed-placed : flat_map (located_text (codes "passed over")) spots.passed.items ≡ flat_map (passed_at v) v.passed
     passed-placed = ap (flat_map (located_text (codes "passed over"))) p.passed ∙ passed-are v.passed
@@ -129,7 +134,10 @@ module _ (v : Validated) where
     misplaced-placed = ap (flat_map (located_text (codes "misplaced"))) p.misplaced ∙ misplaced-are v.misplaced
 
     findings-placed : flat_map (spot_text outcome_word v.lines) spots.findings.items ≡ flat_map (told_text v) (told_in v.lines)
-    findings-placed = ap (flat_map (spot_text outcome_word v.lines)) p.findings ∙ ordered-are v.lines
+    findings-placed =
+        ap (flat_map (spot_text outcome_word v.lines)) p.findings
+        ∙ ordered-are (spot_text outcome_word v.lines) (told_text v) v.lines
+        (λ number node finding e. ap (optional_text outcome_word (place_at v.document v.content node)) e)
 
     fault-count : length spots.faults.items ≡ length v.faults
     fault-count = ap length p.faults ∙ many-faults 2 v.faults
@@ -157,9 +165,38 @@ module _ (v : Validated) where
     unfolding has_findings
     answer-is = λ i. counts_against (fault-count i) (misplaced-count i) (tally_of v.lines)
 
+    contents-are : held_contents (reading_lines v.document v.faults v.misplaced) v.lines spots ≡ contents_of v
+    unfolding contents_of
+    contents-are =
+        let whole = reading_lines v.document v.faults v.misplaced in
+        let faults : flat_map (placed_in whole) spots.faults.items ≡ map (fault_placed v) v.faults =
+        ap (flat_map (placed_in whole)) p.faults
+        ∙ (faults-are (placed_in whole) (λ fault. fault_placed v fault ∷ []) whole (map (misplaced_line v.document) v.misplaced)
+        (λ number fault e. ap (placed_if (place_at v.document v.content fault.node)) e) 2 v.faults refl
+        ∙ flat_map-one (fault_placed v) v.faults) in
+        let findings : flat_map (placed_in v.lines) spots.findings.items ≡ map (told_placed v) (told_in v.lines) =
+        ap (flat_map (placed_in v.lines)) p.findings
+        ∙ (ordered-are (placed_in v.lines) (λ told. told_placed v told ∷ []) v.lines
+        (λ number node finding e. ap (placed_if (place_at v.document v.content node)) e)
+        ∙ flat_map-one (told_placed v) (told_in v.lines)) in
+        λ i. record {
+          faults = faults i;
+          passed = p.passed i;
+          unread = p.unread i;
+          misplaced = p.misplaced i;
+          findings = findings i;
+          counts = record {
+            faults = fault-count i;
+            passed = passed-count i;
+            unread = unread-count i;
+            misplaced = misplaced-count i;
+            tally = tally_of v.lines;
+          };
+        }
+
     report-is : held (reading_lines v.document v.faults v.misplaced ∷ v.lines ∷ []) spots ≡ report_of v
     unfolding held svrl_validation
-    report-is = λ i. record { plain = plain-is i; svrl = svrl_validation v; findings = answer-is i }
+    report-is = λ i. record { plain = plain-is i; svrl = svrl_validation v; findings = answer-is i; contents = contents-are i }
 
 -- what is kept where all stands that is told
 pub kept-report : (v : Validated) (reading : List Line) (spots : Spots) → reading ≡ reading_lines v.document v.faults v.misplaced → ArePlaced v spots
@@ -175,6 +212,10 @@ held-plain found spots = refl
 pub held-svrl : (found : List (List Line)) (spots : Spots) → (held found spots).svrl ≡ encode_utf8_all (svrl_report found)
 unfolding held
 held-svrl found spots = refl
+
+pub held-contents : (found : List (List Line)) (spots : Spots) → (held found spots).contents ≡ held_contents (reading_in found) (rules_in found) spots
+unfolding held
+held-contents found spots = refl
 
 pub held-findings : (found : List (List Line)) (spots : Spots)
     → (held found spots).findings ≡ counts_against (length spots.faults.items) (length spots.misplaced.items) (tally_of (rules_in found))

@@ -1,4 +1,4 @@
--- What the code keeps of a report until it is written. No public clause cites it.
+-- What the code keeps of a report until it is written.
 use Rattle.std.specs.Prelude.{◌≡◌, ℕ, ◌<◌, suc, List, [], ◌∷◌, ◌++◌, length, get_or, map, flat_map, codes, encode_utf8_all, Option, Some, None, slice_get}
 use Rattle.std.specs.List.{All}
 use Rattle.line_places.specs.declared.place.LinePlace.{LinePlace}
@@ -18,7 +18,7 @@ use Rattle.validation_report.specs.declared.places.Unread.{Unread}
 use Rattle.validation_report.specs.declared.places.Spots.{Spots}
 use Rattle.validation_report.specs.declared.reading.ReadingFindings.{ReadingFindings}
 use Rattle.validation_report.specs.Told.{in_order}
-use Rattle.validation_report.specs.Validating.{finding_text, element_text, unread_text, value_at, count_text, counts_against, Validated, Report}
+use Rattle.validation_report.specs.Validating.{finding_text, element_text, unread_text, value_at, count_text, counts_against, Validated, Placed, Counts, Contents, Report}
 
 -- ---- what the reading finds
 
@@ -130,6 +130,40 @@ held_plain reading rules spots =
     ++ (flat_map (spot_text outcome_word rules) spots.findings.items
     ++ held_counts spots rules))))
 
+-- ---- what is told of it
+
+abbrev pub placed_line : LinePlace → Line → List Placed
+placed_line place (line.Pattern id) = []
+placed_line place (line.Fired node rule context) = []
+placed_line place (line.Found finding) = record { finding = finding; place = place } ∷ []
+
+abbrev pub placed_if : LinePlace → Option Line → List Placed
+placed_if place None = []
+placed_if place (Some line) = placed_line place line
+
+-- the finding of these at a spot
+abbrev pub placed_in : List Line → Spot → List Placed
+placed_in lines spot = placed_if spot.place (slice_get lines spot.line)
+
+abbrev pub held_numbers : Spots → List Line → Counts
+held_numbers spots rules = record {
+  faults = length spots.faults.items;
+  passed = length spots.passed.items;
+  unread = length spots.unread.items;
+  misplaced = length spots.misplaced.items;
+  tally = tally_of rules;
+}
+
+abbrev pub held_contents : List Line → List Line → Spots → Contents
+held_contents reading rules spots = record {
+  faults = flat_map (placed_in reading) spots.faults.items;
+  passed = spots.passed.items;
+  unread = spots.unread.items;
+  misplaced = spots.misplaced.items;
+  findings = flat_map (placed_in rules) spots.findings.items;
+  counts = held_numbers spots rules;
+}
+
 -- of two lists of lines what the reading finds, and what rules find
 abbrev pub reading_in : List (List Line) → List Line
 reading_in found = get_or found 0 []
@@ -142,6 +176,7 @@ held found spots = record {
   plain = held_plain (reading_in found) (rules_in found) spots;
   svrl = encode_utf8_all (svrl_report found);
   findings = counts_against (length spots.faults.items) (length spots.misplaced.items) (tally_of (rules_in found));
+  contents = held_contents (reading_in found) (rules_in found) spots;
 }
 
 -- There are no spots yet.

@@ -1,6 +1,6 @@
 -- The report of a validation: as lines for a person, and in the Schematron Validation Report Language. Texts are bytes of
 -- UTF-8.
-use Rattle.std.specs.Prelude.{ℕ, nat_lt, Bool, true, false, ◌||◌, List, [], ◌∷◌, ◌++◌, length, take, flat_map, codes, decimal, encode_utf8_all}
+use Rattle.std.specs.Prelude.{ℕ, nat_lt, Bool, true, false, ◌||◌, List, [], ◌∷◌, ◌++◌, length, take, map, flat_map, codes, decimal, encode_utf8_all}
 use Rattle.inv_base.specs.Text.{quoted}
 use Rattle.inv_terms.specs.Values.{trimmed}
 use Rattle.line_places.specs.declared.place.LinePlace.{LinePlace}
@@ -16,6 +16,8 @@ use Rattle.svrl_report.specs.declared.tally.Tally.{Tally}
 use Rattle.svrl_report.specs.Plain.{outcome_text, id_text, tally_of, counts_line}
 use Rattle.svrl_report.specs.Svrl.{svrl_report}
 use Rattle.bind_meaning.specs.KindTexts.{kind_text}
+use Rattle.validation_report.specs.declared.places.Located.{Located}
+use Rattle.validation_report.specs.declared.places.Unread.{Unread}
 use Rattle.validation_report.specs.Told.{fault_finding, reading_lines, Told, told_in}
 
 -- what a validation comes to: the file's bytes and the document that they are; the faults of reading, the elements that were
@@ -119,14 +121,74 @@ counts_against faults misplaced tally = nat_lt 0 faults || (nat_lt 0 misplaced |
 unfoldable pub has_findings : Validated → Bool
 has_findings v = counts_against (length v.faults) (length v.misplaced) (tally_of v.lines)
 
+-- ---- what is told, whatever form it takes
+
+-- a finding, and where its node stands in the file
+pub record Placed : Type 0 where
+  pub finding : Finding
+  pub place : LinePlace
+
+-- how many there are of each sort
+pub record Counts : Type 0 where
+  pub faults : ℕ
+  pub passed : ℕ
+  pub unread : ℕ
+  pub misplaced : ℕ
+  pub tally : Tally
+
+pub record Contents : Type 0 where
+  pub faults : List Placed
+  pub passed : List Located
+  pub unread : List Unread
+  pub misplaced : List Located
+  pub findings : List Placed
+  pub counts : Counts
+
+abbrev pub placed : Validated → ℕ → Finding → Placed
+placed v node finding = record { finding = finding; place = place_of v node }
+
+abbrev pub fault_placed : Validated → BindFault → Placed
+fault_placed v fault = placed v fault.node (fault_finding v.document fault)
+
+abbrev pub told_placed : Validated → Told → Placed
+told_placed v told = placed v told.node told.finding
+
+-- where an element stands in its document and its file
+abbrev pub located : Validated → ℕ → Located
+located v node = record { location = location (tree_nodes v.document) node; place = place_of v node }
+
+abbrev pub unread_located : Validated → ℕ → Unread
+unread_located v node = record { element = located v node; value = value_at v.document node }
+
+abbrev pub counts_of : Validated → Counts
+counts_of v = record {
+  faults = length v.faults;
+  passed = length v.passed;
+  unread = length v.unread;
+  misplaced = length v.misplaced;
+  tally = tally_of v.lines;
+}
+
+-- each in document order
+unfoldable pub contents_of : Validated → Contents
+contents_of v = record {
+  faults = map (fault_placed v) v.faults;
+  passed = map (located v) v.passed;
+  unread = map (unread_located v) v.unread;
+  misplaced = map (located v) v.misplaced;
+  findings = map (told_placed v) (told_in v.lines);
+  counts = counts_of v;
+}
+
 -- what is told of a validation
 pub record Report : Type 0 where
   pub plain : List ℕ
   pub svrl : List ℕ
   pub findings : Bool
+  pub contents : Contents
 
 abbrev pub report_of : Validated → Report
-report_of v = record { plain = plain_validation v; svrl = svrl_validation v; findings = has_findings v }
+report_of v = record { plain = plain_validation v; svrl = svrl_validation v; findings = has_findings v; contents = contents_of v }
 
 -- the report in SVRL, or the plain one
 abbrev pub validation_text : Bool → Validated → List ℕ

@@ -9,5 +9,6 @@ mod texts;
 mod validation;
 mod values;
 
+pub use places::{Located, Spot, Spots, Unread};
 pub use reading::ReadingFindings;
-pub use validation::Validation;
+pub use validation::{Parts, Validation};

@@ -21,16 +21,16 @@ use std::alloc::{AllocError, Global};
 
 /// Of a finding its node with the place of that, and the number of its line among those of its report.
 #[derive(Clone, Copy)]
-pub(crate) struct Spot {
-    pub(crate) node: NodeId,
-    pub(crate) line: usize,
-    pub(crate) place: LinePlace,
+pub struct Spot {
+    pub node: NodeId,
+    pub line: usize,
+    pub place: LinePlace,
 }
 
 /// An element that is told by itself: where it stands in the document, and in the file.
-pub(crate) struct Located {
-    pub(crate) location: Txt,
-    pub(crate) place: LinePlace,
+pub struct Located {
+    pub location: Txt,
+    pub place: LinePlace,
 }
 
 impl Drop for Located {
@@ -41,9 +41,10 @@ impl Drop for Located {
 }
 
 /// An unread node, and what is shown of its own text, not quoted yet.
-pub(crate) struct Unread {
-    pub(crate) element: Located,
-    pub(crate) value: Txt,
+pub struct Unread {
+    /// Where it stands.
+    pub element: Located,
+    pub value: Txt,
 }
 
 impl Drop for Unread {
@@ -55,13 +56,14 @@ impl Drop for Unread {
 }
 
 /// Where stands what is told.
-pub(crate) struct Spots {
-    pub(crate) faults: Vec<Spot>,
-    pub(crate) passed: Vec<Located>,
-    pub(crate) unread: Vec<Unread>,
-    pub(crate) misplaced: Vec<Located>,
-    // In document order.
-    pub(crate) findings: Vec<Spot>,
+pub struct Spots {
+    pub faults: Vec<Spot>,
+    /// The elements that were passed over.
+    pub passed: Vec<Located>,
+    pub unread: Vec<Unread>,
+    pub misplaced: Vec<Located>,
+    /// What rules find, in document order.
+    pub findings: Vec<Spot>,
 }
 
 impl Drop for Spots {

@@ -8,7 +8,7 @@ ghost use Rattle.node_locations.specs.Locations.{AreOrdinals};
 ghost use Rattle.bind_meaning.specs.declared.fault.BindFault.{BindFault};
 ghost use Rattle.svrl_report.specs.Plain.{tally_of};
 ghost use Rattle.validation_report.specs.Told.{reading_lines};
-ghost use Rattle.validation_report.specs.Held.{AreNone, ArePlaced, AreWithin, held, held_plain, reading_in, rules_in, validation_of};
+ghost use Rattle.validation_report.specs.Held.{AreNone, ArePlaced, AreWithin, held, held_contents, held_plain, reading_in, rules_in, validation_of};
 ghost use Rattle.validation_report.specs.Validating.{report_of, counts_against};
 
 use crate::places::{
@@ -94,6 +94,17 @@ impl<'r> Validation<'r> {
         counts_against(&self.found, &self.spots)
     }
 
+    /// All that it tells, for who writes it in another form.
+    pub fn parts(&self) -> Parts<'_, 'r>
+        ensures { held_contents result.reading.now result.rules.now result.spots.now ≡ self.now.contents }
+    {
+        Parts {
+            reading: reading_in(&self.found),
+            rules: rules_in(&self.found),
+            spots: &self.spots,
+        }
+    }
+
     /// Writes the report for a person. Behind a fault the sink has taken a front of it.
     pub fn write_plain<K: Sink>(&self, out: &mut K) -> Result<(), WriteFault>
         ensures { Writes result self.now.plain (K.view out.old) (K.view out.new) }
@@ -107,6 +118,16 @@ impl<'r> Validation<'r> {
     {
         write_svrl(&self.found, out)
     }
+}
+
+/// What a validation tells, as it is kept: lines that tell the findings, and where all stands.
+#[derive(Clone, Copy)]
+pub struct Parts<'v, 'r> {
+    /// What the reading finds; the spots of the faults say which of these lines.
+    pub reading: &'v [Line<'r>],
+    /// What rules find; the spots of the findings say which of these lines.
+    pub rules: &'v [Line<'r>],
+    pub spots: &'v Spots,
 }
 
 /// What a report is made of, but for what rules find.

@@ -33,7 +33,7 @@ returns-in-Check g c =
     let before : Outside = record { shelf = g.S.Shelf.view c.args.shelf.now; out = g.O.Sink.view c.args.out.now; err = g.E.Sink.view c.args.err.now } in
     let after : Outside = record { shelf = g.S.Shelf.view c.check.new.shelf; out = g.O.Sink.view c.check.new.out; err = g.E.Sink.view c.check.new.err } in
     let phase = option_map text_of c.in-Check.phase in
-    let runs = subst (λ names. Runs (check_protocol c.in-Check.svrl phase names c.in-Check.file.now) before after c.check.result) c.as_slice.ensures
+    let runs = subst (λ names. Runs (check_protocol c.in-Check.format phase names c.in-Check.file.now) before after c.check.result) c.as_slice.ensures
     c.check.ensures in
     (0, rw (← asked_is c.command_of-asked.result c.command_of-asked.ensures c.in-Check.is) (tt, runs))
 

@@ -7,9 +7,9 @@ use Rattle.invoice_jobs.proofs.comparison.write_totals.Goals as goal
 
 pub returns-in-Ok : goal.returns-in-Ok
 returns-in-Ok g c = λ shelf err.
-    subst (λ found. Runs (totalled found) (record { shelf = shelf; out = g.O.Sink.view c.args.out.now; err = err })
+    subst (λ found. Runs (totalled c.args.format c.args.file.now found) (record { shelf = shelf; out = g.O.Sink.view c.args.out.now; err = err })
     (record { shelf = shelf; out = g.O.Sink.view c.write_found.new.out; err = err }) c.write_found.result)
     c.in-Ok.ensures (c.write_found.ensures shelf err)
 
 pub returns-in-Err : goal.returns-in-Err
-returns-in-Err g c = λ shelf err. memory_here (totalled (differences c.args.i.now)) shelf (g.O.Sink.view c.args.out.now) err
+returns-in-Err g c = λ shelf err. memory_here (totalled c.args.format c.args.file.now (differences c.args.i.now)) shelf (g.O.Sink.view c.args.out.now) err

@@ -2,7 +2,7 @@ use Rattle.std.proofs.Common.{[], ◌∷◌, sym, ap, ◌∙◌}
 use Rattle.std.specs.Prelude.{chars}
 use Rattle.invoice_json.proofs.NameLemmas.{chars-array_name}
 use Rattle.invoice_json.proofs.CallLemmas.{enter-apart}
-use Rattle.invoice_json.proofs.MadeLemmas.{Made-one, Made-append, Made-same}
+use Rattle.json_text.proofs.MadeLemmas.{Made-one, Made-append, Made-same}
 use Rattle.invoice_json.proofs.occurrences.enter.Goals as goal
 
 pub returns-else-in_one_array-clause-made : goal.returns-else-in_one_array-clause-made

@@ -1,6 +1,6 @@
 use Rattle.std.proofs.Common.{[], ◌∷◌, sym, ◌∙◌}
 use Rattle.invoice_json.proofs.CallLemmas.{leave-apart}
-use Rattle.invoice_json.proofs.MadeLemmas.{Made-one, Made-append, Made-same}
+use Rattle.json_text.proofs.MadeLemmas.{Made-one, Made-append, Made-same}
 use Rattle.invoice_json.proofs.occurrences.leave.Goals as goal
 
 pub returns-then-not-in_one_array-clause-made : goal.returns-then-not-in_one_array-clause-made

@@ -1,7 +1,7 @@
 use Rattle.std.proofs.Common.{sym, ap, ◌∙◌, arith}
 use Rattle.invoice_json.specs.Streaming.{slot_depth}
 use Rattle.invoice_json.proofs.CallLemmas.{turn-apart, kept_depth-most}
-use Rattle.invoice_json.proofs.MadeLemmas.{Made-append, Made-same}
+use Rattle.json_text.proofs.MadeLemmas.{Made-append, Made-same}
 use Rattle.invoice_json.proofs.occurrences.turn.Goals as goal
 
 pub enter-requires : goal.enter-requires

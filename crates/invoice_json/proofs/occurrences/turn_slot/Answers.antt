@@ -1,6 +1,6 @@
 use Rattle.std.proofs.Common.{sym, ◌∙◌}
 use Rattle.invoice_json.proofs.CallLemmas.{slot-apart}
-use Rattle.invoice_json.proofs.MadeLemmas.{Made-append, Made-same}
+use Rattle.json_text.proofs.MadeLemmas.{Made-append, Made-same}
 use Rattle.invoice_json.proofs.occurrences.turn_slot.Goals as goal
 
 pub returns-clause-made : goal.returns-clause-made

@@ -6,7 +6,7 @@ use Rattle.invoice_json.specs.InvoiceJson.{invoice_json}
 use Rattle.invoice_json.specs.Streaming.{stream_calls, closing_calls}
 use Rattle.invoice_json.proofs.CallLemmas.{loop-next, loop-end}
 use Rattle.invoice_json.proofs.StreamLemmas.{invoice-calls}
-use Rattle.invoice_json.proofs.MadeLemmas.{Made-one, Made-append, Made-same, Ahead-step, Ahead-same, printed}
+use Rattle.json_text.proofs.MadeLemmas.{Made-one, Made-append, Made-same, Ahead-step, Ahead-same, printed}
 use Rattle.invoice_json.proofs.printing.print_json.Goals as goal
 
 pub entries-preserved : goal.entries-preserved

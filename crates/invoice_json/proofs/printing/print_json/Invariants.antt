@@ -1,7 +1,7 @@
 use Rattle.std.proofs.Common.{◌≡◌, ◌+◌, drop}
 use Rattle.term_table.specs.Contexts.{root_context}
 use Rattle.invoice_json.specs.Streaming.{stream_calls, closing_calls, context_depth}
-use Rattle.invoice_json.proofs.MadeLemmas.{Ahead}
+use Rattle.json_text.proofs.MadeLemmas.{Ahead}
 use Rattle.invoice_json.proofs.printing.print_json.Given as goal
 
 -- The calls of the entries to come are left, and what their contexts have open is open.

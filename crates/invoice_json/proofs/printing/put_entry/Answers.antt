@@ -1,6 +1,6 @@
 use Rattle.std.proofs.Common.{[], ◌∷◌, ap}
 use Rattle.json_text.specs.Calls.{call_text}
-use Rattle.invoice_json.proofs.MadeLemmas.{Made-one, Made-append, Made-same}
+use Rattle.json_text.proofs.MadeLemmas.{Made-one, Made-append, Made-same}
 use Rattle.invoice_json.proofs.printing.put_entry.Goals as goal
 
 pub returns-clause-made : goal.returns-clause-made

@@ -1,6 +1,6 @@
 use Rattle.std.proofs.Common.{◌≡◌, ◌<◌, ◌^◌, IsAscii, sym, subst, arith, rules}
 use Rattle.inv_listing.specs.Listing.{term_text}
-use Rattle.invoice_json.proofs.NameLemmas.{term_text-ascii}
+use Rattle.inv_listing.proofs.AsciiLemmas.{term_text-ascii}
 use Rattle.invoice_json.proofs.printing.put_name.Goals as goal
 
 pub ascii_text-requires : goal.ascii_text-requires

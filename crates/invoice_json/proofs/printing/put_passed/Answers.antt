@@ -1,7 +1,7 @@
 use Rattle.std.proofs.Common.{[], ◌∷◌, refl}
-use Rattle.invoice_json.proofs.NameLemmas.{chars-word}
+use Rattle.json_text.proofs.WordLemmas.{chars-word}
 use Rattle.invoice_json.proofs.CallLemmas.{passed-made}
-use Rattle.invoice_json.proofs.MadeLemmas.{Made-one, Made-append, Made-same}
+use Rattle.json_text.proofs.MadeLemmas.{Made-one, Made-append, Made-same}
 use Rattle.invoice_json.proofs.printing.put_passed.Goals as goal
 
 pub returns-clause-made : goal.returns-clause-made

@@ -10,7 +10,7 @@ use Rattle.json_text.specs.Json.{Json}
 use Rattle.json_text.specs.Layout.{document}
 use Rattle.json_text.specs.Calls.{Call, call_finish, calls_of, document_calls, fresh, appended_by, state_behind, appended_by_all, behind_all}
 use Rattle.json_text.proofs.CallsLemmas.{Prints-more_calls, Prints-one_more, behind_all-append}
-use Rattle.invoice_json.specs.Streaming.{Made}
+use Rattle.json_text.specs.Made.{Made}
 
 pub Made-nil : (p : JsonPen) (r : SinkView) → Made [] p p r r
 Made-nil p r = record { prints = Prints-nil p.printer.failed r; state = refl }

@@ -1,0 +1,6 @@
+use Rattle.invoice_page.proofs.ShowLemmas.{whole_section}
+use Rattle.std.proofs.Common.{refl}
+use Rattle.invoice_page.proofs.sections.put_table.Goals as goal
+
+pub returns : goal.returns
+returns g c = whole_section _ _ _ _ _ _ _ _ _ refl c.put_rows.ensures c.put_end.ensures

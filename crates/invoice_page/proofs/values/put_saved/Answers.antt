@@ -1,0 +1,14 @@
+use Rattle.inv_base.proofs.PrintingLemmas.{Prints-append}
+use Rattle.invoice_page.proofs.values.put_saved.Goals as goal
+
+pub returns : goal.returns
+returns g c = Prints-append _ _ _ _ _ _ _ _ c.put.ensures
+    (Prints-append _ _ _ _ _ _ _ _ c.put_title.ensures
+    (Prints-append _ _ _ _ _ _ _ _ c.put-2.ensures
+    (Prints-append _ _ _ _ _ _ _ _ c.put_text_at.ensures
+    (Prints-append _ _ _ _ _ _ _ _ c.put-3.ensures
+    (Prints-append _ _ _ _ _ _ _ _ c.put_text_at-2.ensures
+    (Prints-append _ _ _ _ _ _ _ _ c.put-4.ensures
+    (Prints-append _ _ _ _ _ _ _ _ c.put_bare.ensures
+    (Prints-append _ _ _ _ _ _ _ _ c.put-5.ensures
+    c.put_size.ensures))))))))

@@ -1,0 +1,7 @@
+mod Outcomes
+mod NumberReading
+mod ValueReading
+mod NumberDeriving
+mod StringDeriving
+mod ValueDeriving
+mod Rows

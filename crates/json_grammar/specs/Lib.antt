@@ -1,0 +1,4 @@
+pub mod Strings
+pub mod Numbers
+pub mod Grammar
+pub mod Items

@@ -1,0 +1,14 @@
+use Rattle.std.proofs.Common.{[], ◌∷◌, ap}
+use Rattle.std.specs.Prelude.{chars}
+use Rattle.std.proofs.lemmas.Str.{chars-IsAscii}
+use Rattle.json_text.specs.Calls.{call_name, call_text}
+use Rattle.json_text.proofs.MadeLemmas.{Made-one, Made-append, Made-same}
+use Rattle.json_text.proofs.pen.JsonPen.text_member.Goals as goal
+
+pub returns : goal.returns
+returns g c = record {
+  made = Made-same _ _ _ _ _ _ (ap (λ name. call_name name ∷ call_text (chars c.args.value.now) ∷ []) (chars-IsAscii c.args.name.now c.requires))
+      (Made-append (_ ∷ []) (_ ∷ []) _ _ _ _ _ _ (Made-one _ _ _ _ _ c.name.ensures.prints c.name.ensures.state)
+      (Made-one _ _ _ _ _ c.text.ensures.prints c.text.ensures.state));
+  depth = search;
+}

@@ -1,0 +1,5 @@
+use Rattle.json_text.proofs.MakingLemmas.{Wrote-array}
+use Rattle.totals_json.proofs.printing.put_differences.Goals as goal
+
+pub returns : goal.returns
+returns g c = Wrote-array _ _ _ _ _ _ _ _ _ _ c.begin_member.ensures c.put_items.ensures c.end.ensures.prints c.end.ensures.state

@@ -1,0 +1,6 @@
+use Rattle.json_text.proofs.MakingLemmas.{Wrote-last, Wrote-object}
+use Rattle.validation_json.proofs.elements.put_element.Goals as goal
+
+pub returns : goal.returns
+returns g c =
+    Wrote-object _ _ _ _ _ _ _ _ _ _ c.begin_item.ensures (Wrote-last _ _ _ _ _ c.put_located.ensures) c.end.ensures.prints c.end.ensures.state

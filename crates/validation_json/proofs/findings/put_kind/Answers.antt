@@ -1,0 +1,7 @@
+use Rattle.std.proofs.Common.{ap, codes}
+use Rattle.json_text.specs.Making.{text_member}
+use Rattle.json_text.proofs.MakingLemmas.{Wrote-same}
+use Rattle.validation_json.proofs.findings.put_kind.Goals as goal
+
+pub returns : goal.returns
+returns g c = Wrote-same _ _ _ _ _ _ (ap (text_member (codes "kind")) c.as_str.ensures) c.text_member.ensures

@@ -4,7 +4,7 @@
 _einv() {
     local word="${COMP_WORDS[COMP_CWORD]}" before="${COMP_WORDS[COMP_CWORD - 1]}" command="${COMP_WORDS[1]:-}" options=
     if [ "$COMP_CWORD" -eq 1 ]; then
-        mapfile -t COMPREPLY < <(compgen -W 'validate show totals check convert extract query outline try --help --version' -- "$word")
+        mapfile -t COMPREPLY < <(compgen -W 'validate show totals view check convert extract query outline try --help --version' -- "$word")
         return
     fi
     case "$before" in
@@ -21,6 +21,7 @@ _einv() {
         validate) options='--svrl --json --codes --extension' ;;
         show) options='--json --codes --extension' ;;
         totals) options='--json --codes --extension' ;;
+        view) options='--codes --extension' ;;
         check) options='--svrl --json --phase --rules' ;;
         convert) options='--to --whole --codes --extension' ;;
     esac

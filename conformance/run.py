@@ -63,7 +63,7 @@ def run(program, case, folder):
     pipes = {end: pipe(case, end) for end in ("stdout", "stderr")}
     before = (lambda: os.close(1)) if case.get("stdout_is") == "closed" else None
     try:
-        done = subprocess.run([program, *words], cwd=folder, stdin=subprocess.DEVNULL, timeout=SECONDS,
+        done = subprocess.run([program, *words], cwd=folder, input=content(case.get("stdin", "")), timeout=SECONDS,
                               preexec_fn=before, **pipes)
         return done.returncode, done.stdout or b"", done.stderr or b""
     except subprocess.TimeoutExpired:

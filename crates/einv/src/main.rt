@@ -32,6 +32,7 @@ fn answered(rt: HostRuntime) -> Status {
         }
     }
     let mut out = OutputSink::new(rt.stdout());
-    let mut shelf = FileShelf::new(rt);
+    let input = rt.stdin();
+    let mut shelf = FileShelf::new(rt, input);
     run(alloc, &words, &mut shelf, &mut out, &mut err)
 }

@@ -13,7 +13,7 @@ use Rattle.job_protocol.specs.Outside.{Outside, IsRefusal, IsAccepted, IsRefused
 use Rattle.job_protocol.specs.Runs.{EndsIn, at_end, ReadsAt, IsRefused, IsUnread, IsOutOfMemory, IsCut, IsWritten, Runs, RunsInPieces}
 use Rattle.job_protocol.proofs.Ends.{ends_as_answered, ends_behind_readings, reads_within}
 use Rattle.trial_run.specs.Trials.{trial_of, trial_text}
-use Rattle.invoice_cli.specs.Job.{Job, outline, show, totals, convert, convert_whole, check, validate, extract, query, trial, help, version, bad_word}
+use Rattle.invoice_cli.specs.Job.{Job, outline, show, totals, view, convert, convert_whole, check, validate, extract, query, trial, help, version, bad_word}
 use Rattle.invoice_cli.specs.Answer.{protocol_of, answer_to}
 use Rattle.invoice_cli.specs.declared.words.Asked.{Asked}
 use Rattle.invoice_cli.specs.declared.words.Command.{Command}
@@ -256,6 +256,7 @@ files_want : (job : Job) → NamesFiles job → WantsMemory job
 files_want (outline file) names = names
 files_want (show format sources file) names = names
 files_want (totals format sources file) names = names
+files_want (view sources file) names = names
 files_want (convert syntax sources file) names = names
 files_want (convert_whole syntax sources file) names = names
 files_want (check format phase rules file) names = names

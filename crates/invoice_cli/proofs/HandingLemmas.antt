@@ -10,7 +10,7 @@ use Rattle.held_output.proofs.HoldingLemmas.{unchanged}
 use Rattle.held_output.proofs.Protocols.{failed_all, front_kept, run_handed, pieces_handed}
 use Rattle.trial_run.specs.Trials.{trial_of, trial_text}
 use Rattle.invoice_cli.specs.declared.usage.TheConstants.{HELP}
-use Rattle.invoice_cli.specs.Job.{Job, outline, show, totals, convert, convert_whole, check, validate, extract, query, trial, help, version, bad_word}
+use Rattle.invoice_cli.specs.Job.{Job, outline, show, totals, view, convert, convert_whole, check, validate, extract, query, trial, help, version, bad_word}
 use Rattle.invoice_cli.specs.Answer.{version_text, protocol_of}
 use Rattle.invoice_cli.specs.Answers.{Says, Tries, Answers}
 use Rattle.invoice_cli.specs.Endings.{LeavesOthers, Ends}
@@ -58,6 +58,7 @@ module _ (start shown now : SinkView) (status status' : Status) where
     ends_handed steps (outline file) ends = (ends.0, runs steps (outline file) ends.1)
     ends_handed steps (show format sources file) ends = (tt, runs steps (show format sources file) ends.1)
     ends_handed steps (totals format sources file) ends = (tt, runs steps (totals format sources file) ends.1)
+    ends_handed steps (view sources file) ends = (tt, runs steps (view sources file) ends.1)
     ends_handed steps (convert syntax sources file) ends = (tt, runs steps (convert syntax sources file) ends.1)
     ends_handed steps (convert_whole syntax sources file) ends = (tt, runs steps (convert_whole syntax sources file) ends.1)
     ends_handed steps (check format phase rules file) ends = (tt, runs steps (check format phase rules file) ends.1)
@@ -82,6 +83,8 @@ answers_of_ends steps (show format sources file) before after status ends =
     answers_of_run steps (show format sources file) tt before after status (λ name is. cc) ends.1
 answers_of_ends steps (totals format sources file) before after status ends = answers_of_run steps (totals format sources file) tt before after status (λ name
     is. cc) ends.1
+answers_of_ends steps (view sources file) before after status ends =
+    answers_of_run steps (view sources file) tt before after status (λ name is. cc) ends.1
 answers_of_ends steps (convert syntax sources file) before after status ends =
     answers_of_run steps (convert syntax sources file) tt before after status (λ name is. cc) ends.1
 answers_of_ends steps (convert_whole syntax sources file) before after status ends =

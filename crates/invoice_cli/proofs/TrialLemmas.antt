@@ -7,10 +7,10 @@ use Rattle.bind_meaning.specs.declared.tables.Syntax.{Syntax}
 use Rattle.invoice_cli.specs.declared.options.Optioned.{Optioned}
 use Rattle.invoice_cli.specs.declared.options.Optioned.TheVariants as commands
 use Rattle.invoice_cli.specs.declared.options.Switch.{Switch}
-use Rattle.invoice_cli.specs.Job.{Job, outline, show, totals, convert, convert_whole, check, validate, extract, query, trial, help, version, bad_word, Options}
+use Rattle.invoice_cli.specs.Job.{Job, outline, show, totals, view, convert, convert_whole, check, validate, extract, query, trial, help, version, bad_word, Options}
 use Rattle.invoice_cli.specs.Job.{none_given}
 use Rattle.invoice_cli.specs.Job.{is_option, with_no_more, last_operand, offered, takes_value, with_flag, with_value, or_bad, last_word, optioned, sources}
-use Rattle.invoice_cli.specs.Job.{format_of, report_format, show_of, totals_of, convert_of, check_of, validate_of, is_digit, digits_value, at_most}
+use Rattle.invoice_cli.specs.Job.{format_of, report_format, show_of, totals_of, view_of, convert_of, check_of, validate_of, is_digit, digits_value, at_most}
 use Rattle.invoice_cli.specs.Job.{number_up_to}
 use Rattle.invoice_cli.specs.Job.{by_number, extract_of}
 use Rattle.invoice_cli.specs.Job.{conversion, most_lines, try_of, query_of, job}
@@ -171,6 +171,8 @@ few-job (command ∷ words) =
     (few-if (bytes_eq command (codes "totals")) _ _
     (few-optioned commands.Totals totals_of (λ given number ws. few-operand (totals (format_of given.json)
     (sources given)) number ws (λ word. tt)) none_given 2 words)
+    (few-if (bytes_eq command (codes "view")) _ _
+    (few-optioned commands.View view_of (λ given number ws. few-operand (view (sources given)) number ws (λ word. tt)) none_given 2 words)
     (few-if (bytes_eq command (codes "convert")) _ _ (few-optioned commands.Convert convert_of few-convert none_given 2 words)
     (few-if (bytes_eq command (codes "check")) _ _ (few-optioned commands.Check check_of few-check none_given 2 words)
     (few-if (bytes_eq command (codes "validate")) _ _ (few-optioned commands.Validate validate_of few-validate none_given 2 words)
@@ -178,7 +180,7 @@ few-job (command ∷ words) =
     (few-if (bytes_eq command (codes "query")) _ _ (few-query words)
     (few-if (bytes_eq command (codes "try")) _ _ (few-try words)
     (few-if (bytes_eq command (codes "--help")) _ _ (few-no_more 2 help words tt)
-    (few-if (bytes_eq command (codes "--version")) _ _ (few-no_more 2 version words tt) tt))))))))))
+    (few-if (bytes_eq command (codes "--version")) _ _ (few-no_more 2 version words tt) tt)))))))))))
 
 -- A trial that the words ask for has at most so many lines.
 pub lines_are_few : (words : List (List ℕ)) (lines : ℕ) → job words ≡ trial lines → lines ≤ most_lines

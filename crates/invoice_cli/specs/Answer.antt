@@ -7,9 +7,10 @@ use Rattle.job_protocol.specs.Lines.{bad_word_line}
 use Rattle.trial_run.specs.Trials.{trial_of, trial_text}
 use Rattle.rule_texts.specs.declared.version.TheConstants.{RULES_VERSION}
 use Rattle.invoice_cli.specs.declared.usage.TheConstants.{HELP, VERSION}
-use Rattle.invoice_cli.specs.Job.{Job, outline, show, totals, convert, convert_whole, check, validate, extract, query, trial, help, version, bad_word}
+use Rattle.invoice_cli.specs.Job.{Job, outline, show, totals, view, convert, convert_whole, check, validate, extract, query, trial, help, version, bad_word}
 use Rattle.invoice_jobs.specs.Invoices.{show_protocol, convert_protocol, convert_whole_protocol, extract_protocol}
 use Rattle.invoice_jobs.specs.Totals.{totals_protocol}
+use Rattle.invoice_jobs.specs.Pages.{view_protocol}
 use Rattle.document_jobs.specs.Outline.{outline_protocol}
 use Rattle.document_jobs.specs.Queries.{query_protocol}
 use Rattle.document_jobs.specs.Checks.{check_protocol}
@@ -24,6 +25,7 @@ abbrev pub protocol_of : ℕ → Job → Protocol
 protocol_of steps (outline file) = outline_protocol file
 protocol_of steps (show format sources file) = show_protocol format sources file
 protocol_of steps (totals format sources file) = totals_protocol format sources file
+protocol_of steps (view sources file) = view_protocol sources file
 protocol_of steps (convert syntax sources file) = convert_protocol syntax sources file
 protocol_of steps (convert_whole syntax sources file) = convert_whole_protocol syntax sources file
 protocol_of steps (check format phase rules file) = check_protocol format phase rules file

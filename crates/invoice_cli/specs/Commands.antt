@@ -3,7 +3,7 @@ use Rattle.std.specs.Prelude.{List, ℕ, take, Some, None, option_map, Result, O
 use Rattle.std.specs.Borrow.{Bor}
 use Rattle.job_protocol.specs.Views.{text_of, texts_of}
 use Rattle.invoice_jobs.specs.Sources.{sources_of}
-use Rattle.invoice_cli.specs.Job.{Job, outline, show, totals, convert, convert_whole, check, validate, extract, query, trial, help, version, bad_word, Options}
+use Rattle.invoice_cli.specs.Job.{Job, outline, show, totals, view, convert, convert_whole, check, validate, extract, query, trial, help, version, bad_word, Options}
 use Rattle.invoice_cli.specs.Job.{words_of}
 use Rattle.invoice_cli.specs.declared.words.Asked.{Asked}
 use Rattle.invoice_cli.specs.declared.words.Command.{Command}
@@ -42,6 +42,7 @@ abbrev pub asked_by : List (List ℕ) → Command → Job
 asked_by rules (commands.Outline file) = outline file.now
 asked_by rules (commands.Show format sources file) = show format (sources_of sources) file.now
 asked_by rules (commands.Totals format sources file) = totals format (sources_of sources) file.now
+asked_by rules (commands.View sources file) = view (sources_of sources) file.now
 asked_by rules (commands.Convert syntax sources file) = convert syntax (sources_of sources) file.now
 asked_by rules (commands.ConvertWhole syntax sources file) = convert_whole syntax (sources_of sources) file.now
 asked_by rules (commands.Check format phase file) = check format (option_map text_of phase) rules file.now

@@ -16,7 +16,7 @@ use Rattle.invoice_cli.specs.declared.options.Switch.{Switch}
 use Rattle.invoice_cli.specs.declared.options.Switch.TheVariants as switches
 
 -- The outline of a file; the terms of an invoice, as lines or as JSON, by the code lists of a file or the built-in ones and by
--- the terms that another file adds or none; where its totals differ, likewise, as lines or as JSON; the invoice in a syntax,
+-- the terms that another file adds or none; where its totals differ, likewise, as lines or as JSON; its page, likewise; the invoice in a syntax,
 -- likewise; the same, where nothing of its document is lost; what rule files find in a document, plain, in SVRL or as JSON, by
 -- the patterns of a phase or those that each file has by default; all that is wrong with an invoice, in these forms, by such
 -- files beside it; an invoice's attached document of that number; the value of an expression at a document; a trial of the
@@ -26,6 +26,7 @@ pub data Job : Type 0 where
   outline : List ℕ → Job
   show : AnswerFormat → Sources → List ℕ → Job
   totals : AnswerFormat → Sources → List ℕ → Job
+  view : Sources → List ℕ → Job
   convert : Syntax → Sources → List ℕ → Job
   convert_whole : Syntax → Sources → List ℕ → Job
   check : ReportFormat → Option (List ℕ) → List (List ℕ) → List ℕ → Job
@@ -90,6 +91,9 @@ has commands.Totals switches.CodeLists = true
 has commands.Totals switches.Extension = true
 has commands.Totals switches.Json = true
 has commands.Totals _ = false
+has commands.View switches.CodeLists = true
+has commands.View switches.Extension = true
+has commands.View _ = false
 has commands.Convert switches.CodeLists = true
 has commands.Convert switches.Extension = true
 has commands.Convert switches.SyntaxToWrite = true
@@ -210,6 +214,9 @@ show_of given number words = last_operand (show (format_of given.json) (sources 
 abbrev pub totals_of : Options → ℕ → List (List ℕ) → Job
 totals_of given number words = last_operand (totals (format_of given.json) (sources given)) number words
 
+abbrev pub view_of : Options → ℕ → List (List ℕ) → Job
+view_of given number words = last_operand (view (sources given)) number words
+
 abbrev pub conversion : Bool → Syntax → Sources → List ℕ → Job
 conversion true = convert_whole
 conversion false = convert
@@ -275,6 +282,7 @@ job (command ∷ words) =
     if bytes_eq command (codes "outline") then last_operand outline 2 words
     else (if bytes_eq command (codes "show") then optioned commands.Show show_of none_given 2 words
     else (if bytes_eq command (codes "totals") then optioned commands.Totals totals_of none_given 2 words
+    else (if bytes_eq command (codes "view") then optioned commands.View view_of none_given 2 words
     else (if bytes_eq command (codes "convert") then optioned commands.Convert convert_of none_given 2 words
     else (if bytes_eq command (codes "check") then optioned commands.Check check_of none_given 2 words
     else (if bytes_eq command (codes "validate") then optioned commands.Validate validate_of none_given 2 words
@@ -283,7 +291,7 @@ job (command ∷ words) =
     else (if bytes_eq command (codes "try") then try_of words
     else (if bytes_eq command (codes "--help") then with_no_more 2 help words
     else (if bytes_eq command (codes "--version") then with_no_more 2 version words
-    else bad_word 1))))))))))
+    else bad_word 1)))))))))))
 
 abbrev pub words_of : List (String Global) → List (List ℕ)
 words_of words = map string_bytes words

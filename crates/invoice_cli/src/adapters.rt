@@ -1,7 +1,7 @@
-ghost use Rattle.std.specs.Prelude.{◌≡◌, ◌<◌, ◌≤◌, None, length, IfOk, OnOk, OnErr};
+ghost use Rattle.std.specs.Prelude.{◌≡◌, ◌<◌, ◌≤◌, true, false, None, length, IfOk, OnOk, OnErr};
 ghost use Rattle.std.specs.Io.KnownBytes.{ReadConsumes, WriteAppends};
 ghost use Rattle.inv_base.specs.Outside.{ShelfView, SinkView, Opens, Reads, Accepts};
-ghost use Rattle.invoice_cli.specs.Adapters.{shelf_of, IsOpen, input_left, sink_of, output_of};
+ghost use Rattle.invoice_cli.specs.Adapters.{shelf_of, IsOpen, input_left, source_left, is_standard, unused, TakesSource, TakesStandard, sink_of, output_of};
 
 use inv_base::{Failed, Shelf, Sink};
 use std::fs::{File, Files};
@@ -11,44 +11,92 @@ use std::io::{ErrorKind, Read, Write};
 /// How often a call is tried that a signal interrupts.
 const TRIES: u32 = 100;
 
-/// The files of the system, by their paths. It tells no content.
+/// The name that stands for standard input.
+const STANDARD_INPUT: &str = "-";
+
+/// Where the bytes of what is open come from.
 #[derive(Drop)]
-pub struct FileShelf<R: Files> {
+pub enum Input<F, I> {
+    File(F),
+    Standard(I),
+}
+
+impl<F: Read, I: Read> Input<F, I> {
+    /// Reads some bytes.
+    fn read(&mut self, buf: &mut [u8]) -> Result<usize, Failed>
+        ensures bound { IfOk result (λ n. n ≤ length buf.new) }
+        ensures bytes { ReadConsumes (source_left F.remaining I.remaining self.old) (source_left F.remaining I.remaining self.new) result buf.new }
+    {
+        match self {
+            Input::File(file) => read_some(file, buf),
+            Input::Standard(input) => read_some(input, buf),
+        }
+    }
+}
+
+/// The files of the system, by their paths, and standard input by the name `-`, once. It tells no content.
+#[derive(Drop)]
+pub struct FileShelf<R: Files, I: Read> {
     files: R,
-    input: Option<R::File>,
+    /// Standard input, until it is opened.
+    unused: Option<I>,
+    input: Option<Input<R::File, I>>,
     faults: u64,
     opens: u64,
 }
 
-impl<R: Files> FileShelf<R> {
+impl<R: Files, I: Read + Drop> FileShelf<R, I> {
     /// A shelf with nothing open.
-    pub fn new(files: R) -> FileShelf<R>
-        ensures { ⟦<FileShelf<R> as Shelf>⟧.view result ≡ record { held = None; left = None; faults = 0; opens = 0 } }
+    pub fn new(files: R, standard: I) -> FileShelf<R, I>
+        ensures { ⟦<FileShelf<R, I> as Shelf>⟧.view result ≡ record { held = None; left = None; faults = 0; opens = 0 } }
     {
         FileShelf {
             files,
+            unused: Some(standard),
             input: None,
             faults: 0,
             opens: 0,
         }
     }
+
+    /// The bytes of the file of that name; those of standard input can be had once.
+    fn source(&mut self, name: &str) -> Result<Input<R::File, I>, Failed>
+        ensures shelf { shelf_of self.new ≡ shelf_of self.old }
+        ensures open { input_left R.File.remaining I.remaining self.new ≡ input_left R.File.remaining I.remaining self.old }
+        ensures standard { is_standard name.now ≡ true → TakesSource (unused self.old) result (unused self.new) }
+        ensures kept { is_standard name.now ≡ false → unused self.new ≡ unused self.old }
+    {
+        if name == STANDARD_INPUT {
+            return match self.unused.take() {
+                Some(standard) => Ok(Input::Standard(standard)),
+                None => Err(Failed),
+            };
+        }
+        match File::open(&self.files, name) {
+            Ok(file) => Ok(Input::File(file)),
+            Err(_) => Err(Failed),
+        }
+    }
 }
 
-impl<R: Files> Shelf for FileShelf<R> {
+impl<R: Files, I: Read + Drop> Shelf for FileShelf<R, I> {
     ghost view = { shelf_of };
 
     fn open(&mut self, name: &str) -> Result<(), Failed>
         ensures opens { Opens result name.now (shelf_of self.old) (shelf_of self.new) }
         ensures opened { OnOk result (IsOpen self.new) }
-        ensures stays { OnErr result (input_left R.File.remaining self.new ≡ input_left R.File.remaining self.old) }
+        ensures stays { OnErr result (input_left R.File.remaining I.remaining self.new ≡ input_left R.File.remaining I.remaining self.old) }
+        ensures standard { is_standard name.now ≡ true
+            → TakesStandard I.remaining (unused self.old) result (input_left R.File.remaining I.remaining self.new) (unused self.new) }
+        ensures kept { is_standard name.now ≡ false → unused self.new ≡ unused self.old }
     {
         self.opens = self.opens.saturating_add(1);
-        match File::open(&self.files, name) {
-            Ok(file) => {
-                self.input = Some(file);
+        match self.source(name) {
+            Ok(input) => {
+                self.input = Some(input);
                 Ok(())
             }
-            Err(_) => {
+            Err(Failed) => {
                 self.faults = self.faults.saturating_add(1);
                 Err(Failed)
             }
@@ -57,11 +105,11 @@ impl<R: Files> Shelf for FileShelf<R> {
 
     fn read(&mut self, buf: &mut [u8]) -> Result<usize, Failed>
         ensures reads { Reads result buf.new (shelf_of self.old) (shelf_of self.new) }
-        ensures bytes { ReadConsumes (input_left R.File.remaining self.old) (input_left R.File.remaining self.new) result buf.new }
+        ensures bytes { ReadConsumes (input_left R.File.remaining I.remaining self.old) (input_left R.File.remaining I.remaining self.new) result buf.new }
     {
         let got = match &mut self.input {
             None => Ok(0),
-            Some(file) => read_some(file, buf),
+            Some(input) => input.read(buf),
         };
         if got.is_err() {
             self.faults = self.faults.saturating_add(1);

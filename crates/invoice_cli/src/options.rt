@@ -103,6 +103,7 @@ pub(crate) struct Scanned<'w> {
 pub(crate) enum Optioned {
     Show,
     Totals,
+    View,
     Convert,
     Check,
     Validate,
@@ -153,6 +154,10 @@ fn has(command: Optioned, switch: Switch) -> bool
         },
         Optioned::Totals => match switch {
             Switch::CodeLists | Switch::Extension | Switch::Json => true,
+            _ => false,
+        },
+        Optioned::View => match switch {
+            Switch::CodeLists | Switch::Extension => true,
             _ => false,
         },
         Optioned::Convert => match switch {

@@ -13,7 +13,7 @@ use crate::words::{Command, command_of};
 use document_jobs::{Checking, check, outline, query};
 use held_output::{HeldOutput, Lent, Origin, hand_over};
 use inv_base::{Shelf, Sink, write_all};
-use invoice_jobs::{convert, convert_whole, extract, show, totals};
+use invoice_jobs::{convert, convert_whole, extract, show, totals, view};
 use job_protocol::{Status, tell_bad_word};
 use std::alloc::Global;
 use std::marker::Brand;
@@ -98,6 +98,7 @@ fn answer<S: Shelf, O: Sink, E: Sink>(
         Command::Totals(format, sources, file) => {
             totals(alloc, format, &sources, file, shelf, out, err)
         }
+        Command::View(sources, file) => view(alloc, &sources, file, shelf, out, err),
         Command::Convert(syntax, sources, file) => {
             convert(alloc, syntax, &sources, file, shelf, out, err)
         }

@@ -18,6 +18,9 @@ read an invoice
   einv totals [--json] [--codes LISTS] [--extension TERMS] FILE
       lists each total that isn't what the other values make of it
       --json          the differences as JSON
+  einv view [--codes LISTS] [--extension TERMS] FILE
+      writes it as a page of HTML that people read, with the meaning of codes
+      and the totals that differ
 
 check any XML document by rules of your own
   einv check [OPTION ..] --rules RULES [--rules RULES ..] FILE
@@ -53,7 +56,7 @@ built in, allows every code. Without it validate goes by currencies, countries
 and media types that are built in. --extension TERMS is a TOML file of
 extension terms, EXT-1 to EXT-99, with the places of their elements. Options
 stand before FILE, in any order. A word that begins with -- is never a file;
-./--name is one.
+./--name is one. - in place of a file is standard input.
 
 einv --help prints this page, einv --version the version and that of the rules.
 

@@ -21,6 +21,8 @@ pub(crate) enum Command<'w> {
     Show(AnswerFormat, Sources<'w>, &'w str),
     /// Likewise.
     Totals(AnswerFormat, Sources<'w>, &'w str),
+    /// The page of an invoice, likewise.
+    View(Sources<'w>, &'w str),
     Convert(Syntax, Sources<'w>, &'w str),
     /// The same, where nothing of the document is lost.
     ConvertWhole(Syntax, Sources<'w>, &'w str),
@@ -57,6 +59,7 @@ pub(crate) fn command_of(words: &[String]) -> Asked<'_>
             "outline" => without_rules(outline_of(rest)),
             "show" => without_rules(show_of(rest)),
             "totals" => without_rules(totals_of(rest)),
+            "view" => without_rules(view_of(rest)),
             "convert" => without_rules(convert_of(rest)),
             "check" => check_of(rest),
             "validate" => without_rules(validate_of(rest)),
@@ -183,6 +186,28 @@ fn totals_with<'w>(given: &Given<'w>, number: u64, words: &'w [String]) -> Comma
 {
     match last_operand(number, words) {
         Ok(file) => Command::Totals(format_of(given.json), given.sources, file),
+        Err(number) => Command::BadWord(number),
+    }
+}
+
+/// The page that the words behind `view` ask for.
+fn view_of(words: &[String]) -> Command<'_>
+    requires { 2 + length words.now < 2 ^ 64 }
+    ensures { asked_by [] result ≡ spec.optioned commands.View spec.view_of spec.none_given 2 (words_of words.now) }
+{
+    let found = scan(Optioned::View, &NONE_GIVEN, 2, words);
+    match found.bad {
+        Some(number) => Command::BadWord(number),
+        None => view_with(&found.given, found.number, found.words),
+    }
+}
+
+fn view_with<'w>(given: &Given<'w>, number: u64, words: &'w [String]) -> Command<'w>
+    requires { number + length words.now < 2 ^ 64 }
+    ensures { asked_by [] result ≡ spec.view_of (given_options given.now) number (words_of words.now) }
+{
+    match last_operand(number, words) {
+        Ok(file) => Command::View(given.sources, file),
         Err(number) => Command::BadWord(number),
     }
 }

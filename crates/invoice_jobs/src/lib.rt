@@ -1,11 +1,12 @@
-//! Jobs on an invoice: its terms, its totals compared, the invoice in a syntax, and what is attached to it; with laws of what is read and of
-//! what is converted.
+//! Jobs on an invoice: its terms, its page, its totals compared, the invoice in a syntax, and what is attached to it; with laws of what is
+//! read and of what is converted.
 #![tactic(auto)]
 
 mod comparison;
 mod conversions;
 mod formats;
 mod invoices;
+mod pages;
 mod refusals;
 mod sources;
 
@@ -16,4 +17,5 @@ pub use conversions::{
 };
 pub use formats::AnswerFormat;
 pub use invoices::{convert, convert_whole, extract, refuse_invoice, show};
+pub use pages::view;
 pub use sources::{Extended, NO_SOURCES, ReadingProfile, Sources, load_extended};

@@ -32,17 +32,41 @@ fn reads_hello<S: Shelf>(shelf: &mut S, name: &str) -> bool {
 #[test]
 fn files_are_read(rt: HostRuntime) -> Result<(), Fail> {
     fs::write(&rt, "files_are_read.txt", b"hello".as_slice())?;
-    let mut shelf = FileShelf::new(rt);
+    let input = rt.stdin();
+    let mut shelf = FileShelf::new(rt, input);
     expect(reads_hello(&mut shelf, "files_are_read.txt"), "hello")
 }
 
 /// A folder can be opened, and not read.
 #[test]
 fn folders_are_not_read(rt: HostRuntime) -> Result<(), Fail> {
-    let mut shelf = FileShelf::new(rt);
+    let input = rt.stdin();
+    let mut shelf = FileShelf::new(rt, input);
     let opened = shelf.open(".") == Ok(());
     let failed = shelf.read(&mut [0; 4]) == Err(Failed);
     expect(opened & failed, "folder")
+}
+
+/// Whether standard input is had by the name `-`, once, and a file that is named so by its path.
+fn reads_once<S: Shelf>(shelf: &mut S) -> bool {
+    let held = [
+        shelf.open("-") == Ok(()),
+        gives(shelf, 4, b"stan"),
+        gives(shelf, 1, b"d..."),
+        gives(shelf, 0, b"...."),
+        shelf.open("-") == Err(Failed),
+        shelf.open("./-") == Ok(()),
+        gives(shelf, 4, b"dash"),
+        shelf.open("-") == Err(Failed),
+    ];
+    held == [true; 8]
+}
+
+#[test]
+fn standard_input_is_read_once(rt: HostRuntime) -> Result<(), Fail> {
+    fs::write(&rt, "./-", b"dash".as_slice())?;
+    let mut shelf = FileShelf::new(rt, b"stand".as_slice());
+    expect(reads_once(&mut shelf), "standard input")
 }
 
 /// An output that fails some times, and then takes at most so many bytes at a time.

@@ -22,6 +22,9 @@ returns-in-Show g c = (0, rw (← asked_is c.command_of-asked.result c.command_o
 pub returns-in-Totals : goal.returns-in-Totals
 returns-in-Totals g c = (0, rw (← asked_is c.command_of-asked.result c.command_of-asked.ensures c.in-Totals.is) (tt, c.totals.ensures))
 
+pub returns-in-View : goal.returns-in-View
+returns-in-View g c = (0, rw (← asked_is c.command_of-asked.result c.command_of-asked.ensures c.in-View.is) (tt, c.view.ensures))
+
 pub returns-in-Convert : goal.returns-in-Convert
 returns-in-Convert g c = (0, rw (← asked_is c.command_of-asked.result c.command_of-asked.ensures c.in-Convert.is) (tt, c.convert.ensures))
 

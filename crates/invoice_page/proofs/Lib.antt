@@ -1,6 +1,1 @@
-pub mod EscapeLemmas
-pub mod HeadLemmas
-pub mod LoopLemmas
-pub mod PartLemmas
-pub mod PlaceLemmas
-pub mod ShowLemmas
+mod HeadLemmas

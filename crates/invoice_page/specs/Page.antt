@@ -11,11 +11,11 @@ use Rattle.inv_totals.specs.Lines.{computed_text}
 use Rattle.page_tables.specs.declared.forms.Meanings.TheVariants as meanings
 use Rattle.page_tables.specs.Tables.{Section, Table, other_kind, style}
 use Rattle.page_tables.specs.Tables as tables
-use Rattle.invoice_page.specs.Places.{Place, invoice_place, value_at}
-use Rattle.invoice_page.specs.Values.{title, text_at, value_of, kind_word}
-use Rattle.invoice_page.specs.Layouts.{row, layout}
-use Rattle.invoice_page.specs.Tables.{rows}
-use Rattle.invoice_page.specs.Sections.{head_of, in_section}
+use Rattle.page_values.specs.Places.{Place, invoice_place, value_at}
+use Rattle.page_values.specs.Values.{title, text_at, value_of, kind_word}
+use Rattle.page_layouts.specs.Layouts.{row, layout}
+use Rattle.page_layouts.specs.Tables.{rows}
+use Rattle.page_layouts.specs.Sections.{head_of, in_section}
 
 -- ---- sections
 
@@ -62,10 +62,13 @@ head place =
     (codes "<meta name=\"viewport\" content=\"width=device-width, initial-scale=1\">\n<title>" ++
     (kind place ++ (0x20 ∷ (text_at place (bt 1) ++ (codes "</title>\n<style>\n" ++ (style ++ codes "</style>\n</head>\n<body>\n"))))))
 
+abbrev pub amount_due : Place → List ℕ
+amount_due place =
+    codes "<p>Amount due <b>" ++ (text_at place (bt 115) ++ (0x20 ∷ (text_at place (bt 5) ++ codes "</b></p>\n</header>\n<main>\n")))
+
 abbrev pub header : Place → List ℕ
 header place =
-    codes "<header>\n<h1>" ++ (kind place ++ (0x20 ∷ (value_of place (bt 1) meanings.None ++ (codes "</h1>\n<p>Amount due <b>" ++
-    (text_at place (bt 115) ++ (0x20 ∷ (text_at place (bt 5) ++ codes "</b></p>\n</header>\n<main>\n")))))))
+    codes "<header>\n<h1>" ++ (kind place ++ (0x20 ∷ (value_of place (bt 1) meanings.None ++ (codes "</h1>\n" ++ amount_due place))))
 
 -- how many elements of the document were passed over, where any were
 abbrev pub passed_text : ℕ → List ℕ
@@ -77,18 +80,40 @@ footer passed_over =
     codes "</main>\n<footer>\n" ++ (passed_text passed_over ++
     codes "<p>The electronic document is the invoice; this page shows it.</p>\n</footer>\n</body>\n</html>\n")
 
--- who sells, buys, is paid and receives, side by side
-abbrev pub parties : Place → List ℕ
-parties place = side [] (flat_map (section_text place) tables.parties)
+-- ---- the sections of the page, each shut, so that who writes one sees no table of another
 
--- the VAT breakdowns and the totals, side by side
+unfoldable pub facts : Place → List ℕ
+facts place = section_text place tables.facts
+
+-- who sells, buys, is paid and receives
+unfoldable pub each_party : Place → List ℕ
+each_party place = flat_map (section_text place) tables.parties
+
+unfoldable pub lines : Place → List ℕ
+lines place = table_text place tables.lines
+
+unfoldable pub extras : Place → List ℕ
+extras place = table_text place tables.extras
+
+unfoldable pub vat : Place → List ℕ
+vat place = table_text place tables.vat
+
+unfoldable pub totals : Place → List ℕ
+totals place = section_text place tables.totals
+
+unfoldable pub rest : Place → List ℕ
+rest place = flat_map (section_text place) tables.rest
+
+-- side by side
+abbrev pub parties : Place → List ℕ
+parties place = side [] (each_party place)
+
 abbrev pub sums : Place → List ℕ
-sums place = side (table_text place tables.vat) (section_text place tables.totals)
+sums place = side (vat place) (totals place)
 
 abbrev pub sections : Place → List Difference → List ℕ
 sections place ds =
-    section_text place tables.facts ++ (parties place ++ (table_text place tables.lines ++ (table_text place tables.extras ++ (sums place ++ (differing ds ++
-    flat_map (section_text place) tables.rest)))))
+    facts place ++ (parties place ++ (lines place ++ (extras place ++ (sums place ++ (differing ds ++ rest place)))))
 
 -- the page of a place, with the totals that differ and how many elements were passed over
 abbrev pub page_of : Place → ℕ → List Difference → List ℕ

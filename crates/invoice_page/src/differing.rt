@@ -3,14 +3,14 @@ ghost use Rattle.inv_base.specs.Printing.{Prints};
 ghost use Rattle.inv_decimal.specs.WrittenNumber.{decimal_text};
 ghost use Rattle.inv_totals.specs.Lines.{computed_text};
 ghost use Rattle.invoice_page.specs.Page as spec;
-ghost use Rattle.invoice_page.specs.Streaming.{Shows, head_lent};
+ghost use Rattle.page_layouts.specs.Streaming.{Shows, head_lent};
 
-use crate::pens::{Head, Pen, open};
-use crate::values::put_title;
 use inv_base::{Printer, Sink};
 use inv_decimal::{Dec, Overflow};
 use inv_totals::Difference;
 use itoa::Buffer;
+use page_layouts::{Head, Pen, open};
+use page_values::put_title;
 use term_table::Slot;
 
 /// Writes a row for each total that differs.

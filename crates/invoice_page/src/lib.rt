@@ -2,17 +2,7 @@
 #![tactic(auto)]
 
 mod differing;
-mod escapes;
-mod items;
-mod layouts;
 mod page;
-mod parts;
-mod pens;
-mod places;
 mod sections;
-mod sizes;
-mod tables;
-mod values;
-mod words;
 
 pub use page::print_page;

@@ -5,21 +5,18 @@ ghost use Rattle.inv_terms.specs.Values.{spelled};
 ghost use Rattle.inv_totals.specs.Totals.{differences};
 ghost use Rattle.page_tables.specs.Tables.{style};
 ghost use Rattle.invoice_page.specs.Page as spec;
-ghost use Rattle.invoice_page.specs.Places as places;
-ghost use Rattle.invoice_page.specs.Streaming.{IsPlace, seen};
-ghost use Rattle.invoice_page.specs.Values.{kind_word};
+ghost use Rattle.page_values.specs.Places as places;
+ghost use Rattle.page_values.specs.Seen.{IsPlace, seen};
+ghost use Rattle.page_values.specs.Values.{kind_word};
 
-use crate::pens::Pen;
-use crate::places::{Place, value_at};
 use crate::sections::put_sections;
-use crate::sizes::sizes_of;
-use crate::values::{put_text_at, put_value};
-use crate::words::kind_word;
 use inv_base::{Printer, Sink};
 use inv_terms::{Counts, Invoice, Value, invoices_are_in_listing_order};
 use inv_totals::{Difference, differences};
 use itoa::Buffer;
+use page_layouts::Pen;
 use page_tables::{Meanings, OTHER_KIND, STYLE};
+use page_values::{Place, kind_word, put_text_at, put_value, sizes_of, value_at};
 use std::alloc::{AllocError, Global};
 use term_table::{Group, ROOT, Term};
 
@@ -159,7 +156,15 @@ fn put_header<K: Sink>(place: &Place<'_>, printer: &mut Printer, out: &mut K)
     put_kind(place, printer, out);
     printer.put(out, b" ");
     put_value(place, bt!(1), Meanings::None, printer, out);
-    printer.put(out, b"</h1>\n<p>Amount due <b>");
+    printer.put(out, b"</h1>\n");
+    put_amount_due(place, printer, out);
+}
+
+fn put_amount_due<K: Sink>(place: &Place<'_>, printer: &mut Printer, out: &mut K)
+    requires { IsPlace place.now }
+    ensures { Prints (spec.amount_due (seen place.now)) printer.old.failed printer.new.failed (K.view out.old) (K.view out.new) }
+{
+    printer.put(out, b"<p>Amount due <b>");
     put_text_at(place, bt!(115), printer, out);
     printer.put(out, b" ");
     put_text_at(place, bt!(5), printer, out);

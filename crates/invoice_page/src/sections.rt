@@ -2,16 +2,14 @@ ghost use Rattle.std.specs.Prelude.{◌≡◌, [], flat_map, map, if◌then◌el
 ghost use Rattle.page_tables.specs.Tables.{section_lent, table_lent};
 ghost use Rattle.inv_base.specs.Printing.{Prints};
 ghost use Rattle.invoice_page.specs.Page as spec;
-ghost use Rattle.invoice_page.specs.Streaming.{IsPlace, seen};
+ghost use Rattle.page_values.specs.Seen.{IsPlace, seen};
 
 use crate::differing::put_difference_rows;
-use crate::layouts::put_layout;
-use crate::pens::{Head, Pen};
-use crate::places::Place;
-use crate::tables::put_rows;
 use inv_base::Sink;
 use inv_totals::Difference;
+use page_layouts::{Head, Pen, put_layout, put_rows};
 use page_tables::{DIFFERING, EXTRAS, FACTS, LINES, PARTIES, REST, Section, TOTALS, Table, VAT};
+use page_values::Place;
 
 /// Writes the sections of the page, in their order.
 pub(crate) fn put_sections<K: Sink>(
@@ -23,13 +21,13 @@ pub(crate) fn put_sections<K: Sink>(
     requires { IsPlace place.now }
     ensures { Prints (spec.sections (seen place.now) differences.now) pen.old.printer.failed pen.new.printer.failed (K.view out.old) (K.view out.new) }
 {
-    put_section(place, &FACTS, pen, out);
+    put_facts(place, pen, out);
     put_parties(place, pen, out);
-    put_table(place, &LINES, pen, out);
-    put_table(place, &EXTRAS, pen, out);
+    put_lines(place, pen, out);
+    put_extras(place, pen, out);
     put_sums(place, pen, out);
     put_differing(differences, pen, out);
-    put_each(place, &REST, pen, out);
+    put_rest(place, pen, out);
 }
 
 fn put_parties<K: Sink>(place: &Place<'_>, pen: &mut Pen, out: &mut K)
@@ -37,7 +35,7 @@ fn put_parties<K: Sink>(place: &Place<'_>, pen: &mut Pen, out: &mut K)
     ensures { Prints (spec.parties (seen place.now)) pen.old.printer.failed pen.new.printer.failed (K.view out.old) (K.view out.new) }
 {
     pen.printer.put(out, b"<div class=\"side\">\n");
-    put_each(place, &PARTIES, pen, out);
+    put_each_party(place, pen, out);
     pen.printer.put(out, b"</div>\n");
 }
 
@@ -46,9 +44,67 @@ fn put_sums<K: Sink>(place: &Place<'_>, pen: &mut Pen, out: &mut K)
     ensures { Prints (spec.sums (seen place.now)) pen.old.printer.failed pen.new.printer.failed (K.view out.old) (K.view out.new) }
 {
     pen.printer.put(out, b"<div class=\"side\">\n");
-    put_table(place, &VAT, pen, out);
-    put_section(place, &TOTALS, pen, out);
+    put_vat(place, pen, out);
+    put_totals(place, pen, out);
     pen.printer.put(out, b"</div>\n");
+}
+
+// ---- one table of page_tables each: a function pays for all that its constants hold
+
+#[tactic(auto, unfolding(crate::specs::Page::facts))]
+fn put_facts<K: Sink>(place: &Place<'_>, pen: &mut Pen, out: &mut K)
+    requires { IsPlace place.now }
+    ensures { Prints (spec.facts (seen place.now)) pen.old.printer.failed pen.new.printer.failed (K.view out.old) (K.view out.new) }
+{
+    put_section(place, &FACTS, pen, out);
+}
+
+#[tactic(auto, unfolding(crate::specs::Page::each_party))]
+fn put_each_party<K: Sink>(place: &Place<'_>, pen: &mut Pen, out: &mut K)
+    requires { IsPlace place.now }
+    ensures { Prints (spec.each_party (seen place.now)) pen.old.printer.failed pen.new.printer.failed (K.view out.old) (K.view out.new) }
+{
+    put_each(place, &PARTIES, pen, out);
+}
+
+#[tactic(auto, unfolding(crate::specs::Page::lines))]
+fn put_lines<K: Sink>(place: &Place<'_>, pen: &mut Pen, out: &mut K)
+    requires { IsPlace place.now }
+    ensures { Prints (spec.lines (seen place.now)) pen.old.printer.failed pen.new.printer.failed (K.view out.old) (K.view out.new) }
+{
+    put_table(place, &LINES, pen, out);
+}
+
+#[tactic(auto, unfolding(crate::specs::Page::extras))]
+fn put_extras<K: Sink>(place: &Place<'_>, pen: &mut Pen, out: &mut K)
+    requires { IsPlace place.now }
+    ensures { Prints (spec.extras (seen place.now)) pen.old.printer.failed pen.new.printer.failed (K.view out.old) (K.view out.new) }
+{
+    put_table(place, &EXTRAS, pen, out);
+}
+
+#[tactic(auto, unfolding(crate::specs::Page::vat))]
+fn put_vat<K: Sink>(place: &Place<'_>, pen: &mut Pen, out: &mut K)
+    requires { IsPlace place.now }
+    ensures { Prints (spec.vat (seen place.now)) pen.old.printer.failed pen.new.printer.failed (K.view out.old) (K.view out.new) }
+{
+    put_table(place, &VAT, pen, out);
+}
+
+#[tactic(auto, unfolding(crate::specs::Page::totals))]
+fn put_totals<K: Sink>(place: &Place<'_>, pen: &mut Pen, out: &mut K)
+    requires { IsPlace place.now }
+    ensures { Prints (spec.totals (seen place.now)) pen.old.printer.failed pen.new.printer.failed (K.view out.old) (K.view out.new) }
+{
+    put_section(place, &TOTALS, pen, out);
+}
+
+#[tactic(auto, unfolding(crate::specs::Page::rest))]
+fn put_rest<K: Sink>(place: &Place<'_>, pen: &mut Pen, out: &mut K)
+    requires { IsPlace place.now }
+    ensures { Prints (spec.rest (seen place.now)) pen.old.printer.failed pen.new.printer.failed (K.view out.old) (K.view out.new) }
+{
+    put_each(place, &REST, pen, out);
 }
 
 fn put_each<K: Sink>(place: &Place<'_>, sections: &[Section], pen: &mut Pen, out: &mut K)

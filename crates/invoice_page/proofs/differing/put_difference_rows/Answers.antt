@@ -1,7 +1,7 @@
 use Rattle.std.proofs.Common.{sym, arith}
 use Rattle.invoice_page.specs.Page.{difference_row}
-use Rattle.invoice_page.proofs.LoopLemmas.{items-next}
-use Rattle.invoice_page.proofs.ShowLemmas.{Shows-append, Shows-same}
+use Rattle.page_values.proofs.LoopLemmas.{items-next}
+use Rattle.page_layouts.proofs.ShowLemmas.{Shows-append, Shows-same}
 use Rattle.invoice_page.proofs.differing.put_difference_rows.Goals as goal
 
 pub differences-preserved : goal.differences-preserved

@@ -1,7 +1,7 @@
 use Rattle.std.proofs.Common.{take}
 use Rattle.std.specs.List.{flat_map}
 use Rattle.invoice_page.specs.Page.{difference_row}
-use Rattle.invoice_page.specs.Streaming.{Shows, head_lent}
+use Rattle.page_layouts.specs.Streaming.{Shows, head_lent}
 use Rattle.invoice_page.proofs.differing.put_difference_rows.Given as goal
 
 -- the rows so far

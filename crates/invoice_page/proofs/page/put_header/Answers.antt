@@ -7,7 +7,4 @@ returns g c = Prints-append _ _ _ _ _ _ _ _ c.put.ensures
     (Prints-append _ _ _ _ _ _ _ _ c.put-2.ensures
     (Prints-append _ _ _ _ _ _ _ _ c.put_value.ensures
     (Prints-append _ _ _ _ _ _ _ _ c.put-3.ensures
-    (Prints-append _ _ _ _ _ _ _ _ c.put_text_at.ensures
-    (Prints-append _ _ _ _ _ _ _ _ c.put-4.ensures
-    (Prints-append _ _ _ _ _ _ _ _ c.put_text_at-2.ensures
-    c.put-5.ensures)))))))
+    c.put_amount_due.ensures))))

@@ -3,7 +3,7 @@ use Rattle.std.specs.List.{flat_map}
 use Rattle.inv_base.specs.Printing.{Prints}
 use Rattle.page_tables.specs.Tables.{section_lent}
 use Rattle.invoice_page.specs.Page.{section_text}
-use Rattle.invoice_page.specs.Streaming.{seen}
+use Rattle.page_values.specs.Seen.{seen}
 use Rattle.invoice_page.proofs.sections.put_each.Given as goal
 
 -- the sections so far

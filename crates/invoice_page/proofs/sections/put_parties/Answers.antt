@@ -3,5 +3,5 @@ use Rattle.invoice_page.proofs.sections.put_parties.Goals as goal
 
 pub returns : goal.returns
 returns g c = Prints-append _ _ _ _ _ _ _ _ c.put.ensures
-    (Prints-append _ _ _ _ _ _ _ _ c.put_each.ensures
+    (Prints-append _ _ _ _ _ _ _ _ c.put_each_party.ensures
     c.put-2.ensures)

@@ -1,4 +1,4 @@
-use Rattle.invoice_page.proofs.ShowLemmas.{whole_section}
+use Rattle.page_layouts.proofs.ShowLemmas.{whole_section}
 use Rattle.std.proofs.Common.{refl}
 use Rattle.invoice_page.proofs.sections.put_table.Goals as goal
 

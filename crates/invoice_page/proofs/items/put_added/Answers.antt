@@ -1,9 +1,0 @@
-use Rattle.std.proofs.Common.{sym, arith}
-use Rattle.invoice_page.proofs.ShowLemmas.{Shows-append, Shows-same}
-use Rattle.invoice_page.proofs.LoopLemmas.{items-next}
-use Rattle.invoice_page.proofs.items.put_added.Goals as goal
-
-pub entries-preserved : goal.entries-preserved
-entries-preserved g c =
-    let next = items-next _ c.args.place.now.entries.now c.entries.e-index c.e-item.result (omega arith) c.e-item.is in
-    Shows-same _ _ _ _ _ _ _ (sym next) (Shows-append _ _ _ _ _ _ _ _ _ c.entries.invariant c.put_where_added.ensures)

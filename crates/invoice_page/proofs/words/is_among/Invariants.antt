@@ -1,8 +1,0 @@
-use Rattle.std.proofs.Common.{◌≡◌, map, drop, chars}
-use Rattle.page_tables.specs.Tables as tables
-use Rattle.invoice_page.specs.Values as values
-use Rattle.invoice_page.proofs.words.is_among.Given as goal
-
-abbrev pub invariant-texts : goal.invariant-texts
-invariant-texts l = values.is_among (map tables.text_lent (drop l.other-index l.texts)) (chars l.text) ≡ values.is_among (map tables.text_lent l.texts)
-    (chars l.text)

@@ -1,0 +1,9 @@
+use Rattle.inv_base.proofs.PrintingLemmas.{Prints-append}
+use Rattle.page_layouts.proofs.items.put_added_row.Goals as goal
+
+pub returns : goal.returns
+returns g c = Prints-append _ _ _ _ _ _ _ _ c.put.ensures
+    (Prints-append _ _ _ _ _ _ _ _ c.print_term.ensures
+    (Prints-append _ _ _ _ _ _ _ _ c.put-2.ensures
+    (Prints-append _ _ _ _ _ _ _ _ c.put_plain.ensures
+    c.put-3.ensures)))

@@ -1,0 +1,4 @@
+pub mod Layouts
+pub mod Tables
+pub mod Sections
+pub mod Streaming

@@ -1,0 +1,5 @@
+pub mod EscapeLemmas
+pub mod LoopLemmas
+mod PartLemmas
+mod PlaceLemmas
+mod SizeLemmas

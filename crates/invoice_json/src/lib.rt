@@ -5,4 +5,5 @@ mod names;
 mod occurrences;
 mod printing;
 
+pub use names::array_name;
 pub use printing::print_json;

@@ -4,7 +4,7 @@ ghost use Rattle.invoice_json.specs.InvoiceJson.{array_name};
 use term_table::Group;
 
 /// How the array of a group is named.
-pub(crate) fn array_name(group: Group) -> &'static str
+pub fn array_name(group: Group) -> &'static str
     ensures { result.now ≡ array_name group }
 {
     match group {
